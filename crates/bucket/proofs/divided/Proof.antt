@@ -1,0 +1,38 @@
+-- `bucket::divided` meets its contract: three laws of `ceiling`, and one more than a quotient that leaves something fits.
+use mathlib.Core.Path.{sym}
+use Prim.Native.Nat.{_/_, _%_, _<_}
+use borrow.Author.Needs.{needs}
+use native.Mathlib.Nat.{div-add-mod', mul-le-mul-left, mul-one}
+use native.Mathlib.Omega.{arith}
+use Rattle.bucket.specs.Laws.{ceiling-by-none, ceiling-whole, ceiling-part}
+use Rattle.bucket.proofs.divided.Statement.{statement}
+use Rattle.bucket.proofs.divided.Tie as tie
+use Rattle.bucket.proofs.divided.Reads as reads
+use Rattle.bucket.proofs.divided.Lts as lts
+
+-- src/lib.rt:87:9
+returns : tie.Need-returns
+returns c = sym (ceiling-by-none (c .before .args .n) (c .before .args .rate) (search needs))
+
+-- src/lib.rt:89:17
+div-whole : tie.Need-div-whole
+div-whole c = search needs
+
+-- src/lib.rt:90:8
+rem-if2 : tie.Need-rem-if2
+rem-if2 c = search needs
+
+-- src/lib.rt:90:39
+add-result : tie.Need-add-result
+add-result c = let a = c .before .before .args in omega (arith, div-add-mod' (a .n) (a .rate), mul-le-mul-left {m = 1} {n = a .rate} (a .n / a .rate) (search needs), mul-one (a .n / a .rate))
+
+-- src/lib.rt:83:1
+returns-2 : tie.Need-returns-2
+returns-2 c = let a = c .before .before .args in sym (ceiling-whole (a .n) (a .rate) (search needs) (search needs))
+
+-- src/lib.rt:83:1
+returns-3 : tie.Need-returns-3
+returns-3 c = let a = c .before .before .args in sym (ceiling-part (a .n) (a .rate) (search needs) (search needs))
+
+pub divided-spec : {M : Type 1} → statement M
+divided-spec = tie.close (tie.spec returns div-whole rem-if2 add-result returns-2 returns-3)

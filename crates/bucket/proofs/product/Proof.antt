@@ -1,0 +1,71 @@
+-- `bucket::product` meets its contract: below the two bounds the product fits, and where both are at least 2^32 it is above every `most`.
+use Prim.Native.Nat.{ℕ, _≤_, _<_}
+use mathlib.Core.Bool.{Bool, true, false, _&&_}
+use mathlib.Core.Path.{_≡_, refl}
+use borrow.Author.Needs.{needs}
+use borrow.Author.Tests.{ltb-true}
+use lib.Dec.{ltb}
+use native.Mathlib.Nat.{mul-le-mul, mul-comm}
+use native.Mathlib.Omega.{arith}
+use Rattle.bucket.proofs.product.Statement.{statement}
+use Rattle.bucket.proofs.product.Tie as tie
+use Rattle.bucket.proofs.product.Reads as reads
+use Rattle.bucket.proofs.product.Lts as lts
+use Rattle.bucket.proofs.lesser.Reads as lesser-reads
+use Rattle.bucket.proofs.tall.Reads as tall-reads
+
+first : (a b : Bool) → (a && b) ≡ true → a ≡ true
+first true b e = refl
+first false b e = e
+
+second : (a b : Bool) → (a && b) ≡ true → b ≡ true
+second true b e = e
+second false b e = cc
+
+mul-lesser : tie.Need-mul-lesser
+mul-lesser c =
+    let a = c .before .args in
+    let slow : a .rate < 17_179_869_184 = ltb-true _ _ (first (ltb (a .rate) 17_179_869_184) (ltb (a .d) 1_073_741_824) (c .if1 .taken)) in
+    let short : a .d < 1_073_741_824 = ltb-true _ _ (second (ltb (a .rate) 17_179_869_184) (ltb (a .d) 1_073_741_824) (c .if1 .taken)) in
+    omega (arith, mul-le-mul {n₁ = a .rate} {m₁ = a .d} {n₂ = 17_179_869_183} {m₂ = 1_073_741_823} (omega arith) (omega arith))
+
+-- src/lib.rt:33:9
+lesser-requires : tie.Need-lesser-requires
+lesser-requires c κs = search needs
+
+-- src/lib.rt:33:9
+returns : tie.Need-returns
+returns c = search needs
+
+-- src/lib.rt:36:9
+tall-requires : tie.Need-tall-requires
+tall-requires c κs = search needs
+
+-- src/lib.rt:36:9
+returns-2 : tie.Need-returns-2
+returns-2 c = search needs
+
+-- src/lib.rt:39:9
+tall-requires-2 : tie.Need-tall-requires-2
+tall-requires-2 c κs = search needs
+
+-- src/lib.rt:39:9
+returns-3 : tie.Need-returns-3
+returns-3 c = let a = c .before .before .before .before .args in omega (arith, mul-comm (a .rate) (a .d))
+
+-- src/lib.rt:29:1
+returns-4 : tie.Need-returns-4
+returns-4 c = let a = c .before .before .before .args in omega (arith, mul-le-mul {n₁ = 4_294_967_296} {m₁ = 4_294_967_296} {n₂ = a .rate} {m₂ = a .d} (search needs) (search needs))
+
+pub product-spec : {M : Type 1} → statement M
+product-spec =
+    tie.close
+    (tie.spec
+    mul-lesser
+    lesser-requires
+    returns
+    tall-requires
+    returns-2
+    tall-requires-2
+    returns-3
+    returns-4)
