@@ -1,0 +1,108 @@
+-- `scheduler::step` meets its contract. `range` is what the range check tells, `gave` that the eligibility time is the specified one; each return is a case of `stepOf`.
+-- Assumes nothing.
+use mathlib.Core.Path.{_≡_, sym, _∙_, ap}
+use mathlib.Core.Bool.{true, false}
+use Prim.Native.Nat.{ℕ, _-_, _+_, _≤_, max}
+use borrow.Author.Needs.{needs}
+use borrow.Author.Tests.{not-true, not-false}
+use native.Mathlib.Omega.{arith}
+use Rattle.bucket.specs.Laws.{wait-bound}
+use Rattle.bucket.specs.Bucket.{grains}
+use Rattle.scheduler.specs.Step.{eligibleOf}
+use Rattle.scheduler.specs.Range.{Ranged, ranged, testOf}
+use Rattle.scheduler.specs.Cases.{step-refused, step-admitted, step-dropped, enough}
+use Rattle.scheduler.proofs.step.Statement.{statement}
+use Rattle.scheduler.proofs.step.Tie as tie
+use Rattle.scheduler.proofs.step.Reads as reads
+use Rattle.scheduler.proofs.step.Lts as lts
+use Rattle.bucket.proofs.grow.Reads as grow-reads
+use Rattle.bucket.proofs.wait.Reads as wait-reads
+use Rattle.scheduler.proofs.in_range.Reads as in-range-reads
+use Rattle.scheduler.proofs.later.Reads as later-reads
+
+-- what passed in holds at each place after the range check
+passed : (c : tie.Else1) → let a = c .before .before .before .before .before .before .args in testOf (a .s) (a .group) (a .residence) (a .arrival) (a .length) ≡ true
+passed c = sym (c .before .in-range .ensures) ∙ not-false _ (c .if1 .left)
+
+refused : (c : tie.Then1) → let a = c .before .before .before .before .before .before .args in testOf (a .s) (a .group) (a .residence) (a .arrival) (a .length) ≡ false
+refused c = sym (c .before .in-range .ensures) ∙ not-true _ (c .if1 .taken)
+
+range : (c : tie.Else1) → let a = c .before .before .before .before .before .before .args in Ranged (a .s) (a .group) (a .residence) (a .arrival) (a .length)
+range c = let a = c .before .before .before .before .before .before .args in ranged (a .s) (a .group) (a .residence) (a .arrival) (a .length) (passed c)
+
+gave : (c : tie.After-later2) → let a = c .before .before .before .before .before .before .before .before .before .args in c .later2 .result ≡ eligibleOf (a .s) (a .group) (a .arrival) (a .length .0)
+gave c = omega arith
+
+cast-burst : tie.Need-cast-burst
+cast-burst c = search needs
+
+cast-octets : tie.Need-cast-octets
+cast-octets c = search needs
+
+in-range-requires : tie.Need-in-range-requires
+in-range-requires c κs = search needs
+
+returns : tie.Need-returns
+returns c = let a = c .before .before .before .before .before .before .args in
+    sym (step-refused (a .s) (a .group) (a .residence) (a .arrival) (a .length) (refused c))
+
+mul-need : tie.Need-mul-need
+mul-need c = let k = range c in omega arith
+
+wait-requires : tie.Need-wait-requires
+wait-requires c κs = let k = range c in omega arith
+
+add-later : tie.Need-add-later
+add-later c = let k = range (c .before) in let s = c .before .before .before .before .before .before .before .args .s in
+    omega (arith, k, wait-bound (s .level) (s .rate .0) (grains (c .before .before .before .before .before .before .before .args .length .0)) (k .rate-low))
+
+later-requires : tie.Need-later-requires
+later-requires c κs = search needs
+
+later-requires-2 : tie.Need-later-requires-2
+later-requires-2 c κs = search needs
+
+add-if2 : tie.Need-add-if2
+add-if2 c = let k = range (c .before .before .before) in omega arith
+
+mul-grow : tie.Need-mul-grow
+mul-grow c = let k = range (c .before .before .before .before) in omega arith
+
+sub-grow : tie.Need-sub-grow
+sub-grow c = search needs
+
+grow-requires : tie.Need-grow-requires
+grow-requires c κs = let k = range (c .before .before .before .before) in omega arith
+
+sub-left : tie.Need-sub-left
+sub-left c = let a = c .before .before .before .before .before .before .before .before .before .before .before .args in let k = range (c .before .before .before .before .before) in let g = gave (c .before .before) in
+    omega (arith, enough (a .s) (a .group) (a .residence) (a .arrival) (a .length) (c .before .before .later2 .result) k (omega (arith, g)))
+
+returns-2 : tie.Need-returns-2
+returns-2 c = let a = c .before .before .before .before .before .before .before .before .before .before .before .args in
+    sym (step-admitted (a .s) (a .group) (a .residence) (a .arrival) (a .length) (passed (c .before .before .before .before .before)) (c .before .before .later2 .result) (gave (c .before .before)) (c .grow .result) (c .before .if2 .taken) (c .grow .ensures))
+
+returns-3 : tie.Need-returns-3
+returns-3 c = let a = c .before .before .before .before .before .before .before .before .before .before .args in
+    sym (step-dropped (a .s) (a .group) (a .residence) (a .arrival) (a .length) (passed (c .before .before .before .before)) (c .before .later2 .result) (gave (c .before)) (c .if2 .left))
+
+pub step-spec : {M : Type 1} → statement M
+step-spec =
+    tie.close
+    (tie.spec
+    cast-burst
+    cast-octets
+    in-range-requires
+    returns
+    mul-need
+    wait-requires
+    add-later
+    later-requires
+    later-requires-2
+    add-if2
+    mul-grow
+    sub-grow
+    grow-requires
+    sub-left
+    returns-2
+    returns-3)

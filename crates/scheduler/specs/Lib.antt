@@ -1,0 +1,5 @@
+pub mod Step
+pub mod Range
+pub mod Cases
+pub mod Worked
+pub mod Larger
