@@ -49,7 +49,7 @@ stepOf s group residence arrival length =
     (record { scheduler = s; group = group; outcome = Refused })
 
 -- document 01's number for an outcome: drop 8, refusal 3; 0 where the frame is admitted
-pub numberOf : Outcome → ℕ
+abbrev pub numberOf : Outcome → ℕ
 numberOf (Admitted at) = 0
 numberOf Dropped = 8
 numberOf Refused = 3

@@ -1,0 +1,4 @@
+pub mod Table
+pub mod Every
+pub mod Rules
+pub mod Worked

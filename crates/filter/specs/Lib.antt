@@ -1,0 +1,3 @@
+pub mod Filter
+pub mod Laws
+pub mod Search

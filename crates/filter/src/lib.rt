@@ -1,0 +1,193 @@
+// The filter table: what a row says, which rows count as empty, and the first row that a question is about (01, kind 2 and A frame's
+// path, step 1). The table is lent; place n is filter n's.
+use bank::Words;
+ghost use mathlib.Core.Path.{_≡_};
+ghost use Prim.Native.Nat.{_+_};
+ghost use lib.Dec.{ltb};
+ghost use lib.ListN.{set};
+ghost use Rattle.bank.specs.Rows.{rowsOf};
+ghost use Rattle.filter.specs.Filter.{noRow, inRangeOf, isFilterOf, missingOf, tooSmallOf, countsOf, fitsOf, rowOf, answersOf, searchOf};
+
+// A row, as document 01's kind 2 has it but for the identifier, which is the row's place. All numbers: whatever a caller leaves in the
+// table is a row. A row of zeros is empty.
+#[repr(C)]
+pub struct Filter {
+    pub handle: u32,
+    // In octets; 0 is none.
+    pub max_sdu: u16,
+    // 1 in a row that a record has set up.
+    pub used: u8,
+    // 1: every handle matches.
+    pub any_handle: u8,
+    // 8: every priority matches.
+    pub priority: u8,
+    pub gate: u8,
+    pub oversize_block: u8,
+    // 255 is none, of the meter and of the scheduler.
+    pub meter: u8,
+    pub scheduler: u8,
+}
+
+// What a search asks of a row.
+pub enum Asks {
+    // Whether a frame uses it.
+    Fits,
+    // Whether start refuses it with 7.
+    Missing,
+    // Whether start refuses it with 8.
+    TooSmall,
+}
+
+// A question on the places `from` up to and without `to`. Handle and priority are a frame's, and only `Fits` looks at them.
+pub struct Question {
+    pub from: usize,
+    pub to: usize,
+    pub asks: Asks,
+    pub handle: u32,
+    pub priority: u8,
+}
+
+// The first row that answers, in ascending identifier; where none does, the place after the last one asked.
+// Ruled out: the last row that answers; a row before `from` or at `to`.
+pub fn search(table: &[Filter], bank: &Words, q: Question) -> usize
+    ensures { λ r. ⌜ r ≡ searchOf (rowsOf (now (bank .entry))) q (now (table .entry)) ⌝ }
+{
+    let to = q.to;
+    let mut i = q.from;
+    while i < to {
+        let row = row_at(table, i);
+        if answers(row, bank, q) {
+            return i;
+        }
+        i += 1;
+    }
+    i
+}
+
+// The row at a place; past the table's end, the empty one.
+// Ruled out: the row of another filter; a row of the memory past the end.
+pub fn row_at(table: &[Filter], i: usize) -> Filter
+    ensures { λ r. ⌜ r ≡ rowOf (now (table .entry)) i ⌝ }
+{
+    if table.len() <= i {
+        return empty();
+    }
+    table[i]
+}
+
+// Stores a row at its place; past the table's end, nothing.
+// Ruled out: a store at another place; a table left as it was.
+pub fn put_row(table: &mut [Filter], place: usize, row: Filter)
+    ensures { λ _. ⌜ now (table .exit) ≡ set (now (table .entry)) place row ⌝ }
+{
+    if table.len() <= place {
+        return;
+    }
+    table[place] = row;
+}
+
+// Whether a row is what a question asks for. Whether it counts is asked last: most rows are ruled out before.
+// Ruled out: a row that names a missing gate used by a frame; a row that is no filter holding up start.
+pub fn answers(row: Filter, bank: &Words, q: Question) -> bool
+    ensures { λ r. ⌜ r ≡ answersOf (rowsOf (now (bank .entry))) q row ⌝ }
+{
+    let asks = q.asks;
+    match asks {
+        Asks::Fits => {
+            if fits(row, q.handle, q.priority) {
+                counts(row, bank)
+            } else {
+                false
+            }
+        }
+        Asks::Missing => is_filter(row) & missing(row, bank),
+        Asks::TooSmall => is_filter(row) & too_small(row, bank),
+    }
+}
+
+// Whether handle and priority of a frame match the row's. Handle and any-handle are one branch, before the priority is looked at: a
+// search leaves most rows after two loads.
+// Ruled out: any-handle taken for handle 0; priority 8 taken for a priority.
+pub fn fits(row: Filter, handle: u32, priority: u8) -> bool
+    ensures { λ r. ⌜ r ≡ fitsOf handle priority row ⌝ }
+{
+    if (row.handle != handle) & (row.any_handle != 1) {
+        return false;
+    }
+    (row.priority == 8) | (row.priority == priority)
+}
+
+// Whether a row counts after start; any other counts as empty.
+// Ruled out: a row that names a missing meter counting; a max SDU that the burst just holds refused.
+pub fn counts(row: Filter, bank: &Words) -> bool
+    ensures { λ r. ⌜ r ≡ countsOf (rowsOf (now (bank .entry))) row ⌝ }
+{
+    is_filter(row) & !missing(row, bank) & !too_small(row, bank)
+}
+
+// Whether there is a filter at a place, as the records before start see it.
+// Ruled out: a used row with a field out of range; an unused one.
+pub fn is_filter(row: Filter) -> bool
+    ensures { λ r. ⌜ r ≡ isFilterOf row ⌝ }
+{
+    (row.used == 1) & in_range(row)
+}
+
+// The empty row.
+// Ruled out: a row that is used; a row with a handle.
+pub fn empty() -> Filter
+    ensures { λ r. ⌜ r ≡ noRow ⌝ }
+{
+    Filter {
+        handle: 0,
+        max_sdu: 0,
+        used: 0,
+        any_handle: 0,
+        priority: 0,
+        gate: 0,
+        oversize_block: 0,
+        meter: 0,
+        scheduler: 0,
+    }
+}
+
+fn in_range(row: Filter) -> bool
+    ensures { λ r. ⌜ r ≡ inRangeOf row ⌝ }
+{
+    (row.any_handle <= 1)
+        & ((row.any_handle == 0) | (row.handle == 0))
+        & (row.priority <= 8)
+        & (row.gate <= 15)
+        & (row.max_sdu <= 2000)
+        & (row.oversize_block <= 1)
+        & ((row.meter <= 15) | (row.meter == 255))
+        & ((row.scheduler <= 31) | (row.scheduler == 255))
+}
+
+// 01, refusal 7.
+fn missing(row: Filter, bank: &Words) -> bool
+    ensures { λ r. ⌜ r ≡ missingOf (rowsOf (now (bank .entry))) row ⌝ }
+{
+    !bank::gate_set(bank, row.gate as usize)
+        | ((row.meter != 255) & !bank::meter_set(bank, row.meter as usize))
+        | ((row.scheduler != 255) & !bank::scheduler_set(bank, row.scheduler as usize))
+}
+
+// 01, refusal 8. A sum with an overhead that no port record gave could wrap, so the overhead is taken off the burst.
+fn too_small(row: Filter, bank: &Words) -> bool
+    ensures { λ r. ⌜ r ≡ tooSmallOf (rowsOf (now (bank .entry))) row ⌝ }
+{
+    let burst = bank::burst_at(bank, row.scheduler as usize);
+    let stage = bank::stage_at(bank);
+    (row.scheduler != 255)
+        & ((row.max_sdu == 0) | exceeds(row.max_sdu as u64, stage.overhead, burst))
+}
+
+fn exceeds(size: u64, overhead: u64, burst: u64) -> bool
+    ensures { λ r. ⌜ r ≡ ltb burst (size + overhead) ⌝ }
+{
+    if burst < overhead {
+        return true;
+    }
+    burst - overhead < size
+}

@@ -1,0 +1,6 @@
+pub mod Meter
+pub mod Range
+pub mod Fill
+pub mod Cases
+pub mod Laws
+pub mod Worked

@@ -1,0 +1,16 @@
+use borrow.Author.Tests.{le-leb, lt-leb}
+use Rattle.path.proofs.internal.Statement.{statement}
+use Rattle.path.proofs.internal.Tie as tie
+use Rattle.path.proofs.internal.Reads as reads
+use Rattle.path.proofs.internal.Lts as lts
+
+-- src/lib.rt:219:1
+returns : tie.Need-returns
+returns c = rw (le-leb _ _ (c .if1 .taken))
+
+-- src/lib.rt:219:1
+returns-2 : tie.Need-returns-2
+returns-2 c = rw (lt-leb _ _ (c .if1 .left))
+
+pub internal-spec : {M : Type 1} → statement M
+internal-spec = tie.close (tie.spec returns returns-2)

@@ -1,0 +1,205 @@
+// Prints the records of standard input as text, one line for each (docs/TEXT.md), and on a refusal by the reader its number and the offset.
+// The input is read in pieces: a record that is cut at the end of a piece waits there for its rest.
+mod line;
+
+use record::Reading;
+use record::Record;
+use record::Refusal;
+ghost use mathlib.Core.Path.{_≡_};
+ghost use Prim.Native.Nat.{ℕ, _+_, _-_, _<_, _≤_};
+ghost use lib.ListN.{length, getD};
+
+// Where the reading of a piece stands: the octets of the piece that are read, the octets read in all, whether a start was read, the octets of
+// the output that wait to be written, whether to go on in this piece, and whether nothing more is to be read at all.
+struct Progress {
+    at: usize,
+    offset: u64,
+    started: bool,
+    filled: usize,
+    more: bool,
+    ended: bool,
+}
+
+// Reads once, behind the octets that are kept, and answers how many octets there are now.
+fn fill(buf: &mut [u8], kept: usize) -> usize
+    ensures { λ r. ⌜ (r ≤ length (now (buf .exit))) × (length (now (buf .exit)) ≡ length (now (buf .entry))) ⌝ }
+{
+    if kept > buf.len() {
+        return 0;
+    }
+    let got = libc::read(0, &mut buf[kept..]);
+    let n = io::count(got, &buf[kept..]);
+    kept + n
+}
+
+// The octets from `from` to `end` move to the front: a record that is not whole waits there for its rest.
+fn keep(buf: &mut [u8], from: usize, end: usize) -> usize
+    requires { ⌜ (from ≤ end) × (end ≤ length (now buf)) ⌝ }
+    ensures { λ r. ⌜ (r ≡ end - from) × ((i : ℕ) → i < end - from → getD (now (buf .exit)) i 0 ≡ getD (now (buf .entry)) (from + i) 0) ⌝ }
+{
+    let n = end - from;
+    let mut i: usize = 0;
+    while i < n {
+        buf[i] = buf[from + i];
+        i += 1;
+    }
+    n
+}
+
+fn is_start(r: Record) -> bool {
+    if let Record::Start(_) = r {
+        true
+    } else {
+        false
+    }
+}
+
+fn is_cut(why: Refusal) -> bool {
+    if let Refusal::CutShort = why {
+        true
+    } else {
+        false
+    }
+}
+
+// One record of the piece. `last` says that no piece follows, so that a cut record is refused.
+fn step(input: &[u8], last: bool, p: Progress, out: &mut [u8]) -> Progress
+    requires { ⌜ p .at ≤ length (now input) ⌝ }
+    ensures { λ r. ⌜ r .at ≤ length (now (input .entry)) ⌝ }
+{
+    let at = p.at;
+    let filled = p.filled;
+    let offset = p.offset;
+    let started = p.started;
+    if input.len() == at {
+        return Progress {
+            at: at,
+            offset: offset,
+            started: started,
+            filled: filled,
+            more: false,
+            ended: last,
+        };
+    }
+    match record::read(&input[at..], started) {
+        Reading::Refused(why) => {
+            if is_cut(why) & !last {
+                return Progress {
+                    at: at,
+                    offset: offset,
+                    started: started,
+                    filled: filled,
+                    more: false,
+                    ended: false,
+                };
+            }
+            let end = line::put_refusal(out, filled, record::number(why), offset);
+            Progress {
+                at: at,
+                offset: offset,
+                started: started,
+                filled: end,
+                more: false,
+                ended: true,
+            }
+        }
+        Reading::Taken(r, used) => {
+            let end = line::put_line(out, filled, r);
+            Progress {
+                at: at + used,
+                offset: std::num::wrapping_add_u64(offset, used as u64),
+                started: started | is_start(r),
+                filled: end,
+                more: true,
+                ended: false,
+            }
+        }
+    }
+}
+
+fn write_out(out: &[u8], filled: usize) -> bool {
+    if filled <= out.len() {
+        io::write_all(1, &out[..filled])
+    } else {
+        false
+    }
+}
+
+// The output is written once half of its buffer is filled. Where that fails nothing more is read.
+fn emptied(p: Progress, out: &[u8]) -> Progress
+    ensures { λ r. ⌜ r .at ≡ p .at ⌝ }
+{
+    if p.filled < 32_768 {
+        return p;
+    }
+    let is_written = write_out(out, p.filled);
+    Progress {
+        at: p.at,
+        offset: p.offset,
+        started: p.started,
+        filled: 0,
+        more: p.more & is_written,
+        ended: p.ended | !is_written,
+    }
+}
+
+// Every record that is whole in this piece.
+fn print_piece(input: &[u8], last: bool, p: Progress, out: &mut [u8]) -> Progress
+    requires { ⌜ p .at ≤ length (now input) ⌝ }
+    ensures { λ r. ⌜ r .at ≤ length (now (input .entry)) ⌝ }
+{
+    let mut s = p;
+    let mut turns = input.len();
+    while turns > 0 && s.more {
+        s = emptied(step(input, last, s, out), out);
+        turns -= 1;
+    }
+    s
+}
+
+// One piece: read, print, keep what is not whole at the front.
+fn turn(p: Progress, buf: &mut [u8], out: &mut [u8]) -> Progress {
+    let kept = p.at;
+    let end = fill(buf, kept);
+    let from = Progress {
+        at: 0,
+        offset: p.offset,
+        started: p.started,
+        filled: p.filled,
+        more: true,
+        ended: false,
+    };
+    let to = print_piece(&buf[..end], end <= kept, from, out);
+    let left = keep(buf, to.at, end);
+    Progress {
+        at: left,
+        offset: to.offset,
+        started: to.started,
+        filled: to.filled,
+        more: true,
+        ended: to.ended | (end <= kept),
+    }
+}
+
+fn print_all(buf: &mut [u8], out: &mut [u8]) {
+    let mut p = Progress {
+        at: 0,
+        offset: 0,
+        started: false,
+        filled: 0,
+        more: true,
+        ended: false,
+    };
+    let mut turns = u64::MAX;
+    while turns > 0 && !p.ended {
+        p = turn(p, buf, out);
+        turns -= 1;
+    }
+    write_out(out, p.filled);
+}
+
+fn main() {
+    let mut buf = io::large_buffer();
+    let mut out = io::large_buffer();
+    print_all(&mut buf, &mut out);
+}
