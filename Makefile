@@ -1,14 +1,45 @@
-# run: the worked figures.  test: the gate.  bench: ns a step beside plain Rust.
-.PHONY: run test bench
+# run           the worked case, as the program `ingress` prints it
+# test          the gate
+# lib           the static library for C: target/staticlib/libtransomrib.a, declared by include/transomrib.h
+# compare       every case and random streams through the programs, the C library and the second program
+# bench         nanoseconds beside plain Rust, as ratios
+# check-second  the second program's own tests;  check-example  the C example, plain and under the compiler's checks
+.PHONY: run test lib compare bench check-second check-example second programs
 
-CASES = scheduler_cases meter_cases gate_cases
+CARGO = cargo --quiet
+SECOND = target/second/release
+export CARGO_TARGET_DIR = $(CURDIR)/target/second
 
 run:
-	@rt check $(CASES) >/dev/null
-	@for c in $(CASES); do target/bin/$$c; done
+	@rt check scheduler_cases meter_cases gate_cases >/dev/null
+	@target/bin/scheduler_cases
+	@target/bin/meter_cases
+	@target/bin/gate_cases
 
 test:
 	@.ci/run
 
-bench:
+lib:
+	@rt staticlib transomrib
+
+second:
+	@$(CARGO) build --release --offline --manifest-path second/Cargo.toml
+
+programs:
+	@rt check ingress report records >/dev/null
+
+check-second:
+	@$(CARGO) test --release --offline --manifest-path second/Cargo.toml
+
+check-example: lib
+	@examples/run.sh
+
+compare: second programs lib
+	@mkdir -p target/tests
+	@rustc --edition 2021 -O tests/library.rs --extern second=$(SECOND)/libsecond.rlib -L target/staticlib -l static=transomrib -o target/tests/library
+	@target/tests/library
+	@$(SECOND)/compare --ingress target/bin/ingress --report target/bin/report --records target/bin/records --cases cases
+	@$(SECOND)/compare --bursts --ingress target/bin/ingress --report target/bin/report
+
+bench: second
 	@bench/run.sh

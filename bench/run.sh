@@ -1,13 +1,18 @@
 #!/usr/bin/env bash
-# Builds the named benchmarks (all where none is named) over the proved archives, and runs them: ns a step beside plain Rust, as ratios.
+# Builds the named benchmarks (all where none is named) over the proved archives, and runs them: nanoseconds beside plain Rust, as ratios.
 set -euo pipefail
 cd "$(dirname "$0")/.."
-for name in "${@:-scheduler meter gate}"; do
-  for one in $name; do
-    rt staticlib "bench_$one" >/dev/null
-    mkdir -p target/bench
-    rustc --edition 2021 -O "bench/$one.rs" -L target/staticlib -l "static=bench_$one" -o "target/bench/$one"
-    echo "== $one"
-    "target/bench/$one"
-  done
+[ $# -gt 0 ] || set -- scheduler meter gate stage
+mkdir -p target/bench
+for name in "$@"; do
+  library=bench_$name
+  second=()
+  if [ "$name" = stage ]; then
+    library=transomrib
+    second=(--extern second=target/second/release/libsecond.rlib)
+  fi
+  rt staticlib "$library" >/dev/null
+  rustc --edition 2021 -O "bench/$name.rs" "${second[@]}" -L target/staticlib -l "static=$library" -o "target/bench/$name"
+  echo "== $name"
+  "target/bench/$name"
 done

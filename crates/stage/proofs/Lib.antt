@@ -1,0 +1,2 @@
+-- What several proofs cite.
+pub mod SharedRef

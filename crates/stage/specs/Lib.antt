@@ -1,0 +1,3 @@
+pub mod Take
+pub mod Plan
+pub mod Agree
