@@ -79,7 +79,7 @@ use Rattle.stage.specs.declared.Done.{Done}
 use Rattle.stage.specs.Take.{bridge, took, answered, takeOf}
 use Rattle.stage.specs.Plan.{planOf, settled, decidedOf}
 use Rattle.stage.specs.Agree.{take-length, take-is}
-use Rattle.stage.proofs.SharedRef as words
+use Rattle.filter.proofs.SharedRef as words
 use Rattle.stage.proofs.Plan as P
 use Rattle.stage.proofs.Plan.Laws as P′
 use Rattle.stage.proofs.Done as D
@@ -435,7 +435,7 @@ module _ {M : Type 1} (𝓤 : URA M) (H : Heap 𝓤) (A : Atoms 𝓤) (W : Given
           lft-new ! tt (λ ν. move ! (1 ∷ 2 ∷ []) $
           use2 W (later (some (λ (δ : GName). ‵ (ShrSlice (named 0) (ν ∷ []) R .own (x δ) (s ∷ [])) ⊛ ‵ (rows.LentShared R κ (ν ∷ []) q γ b o ys)))) (rows.lends-shared R κ (ν ∷ []) q γ b o 𝓤 H A W (named 0) (named 0) ys) $ await ! tt $ pick ! (λ δ. split ! $
           lft-new ! tt (λ μ. move ! (4 ∷ 5 ∷ []) $
-          use2 W (later (some (λ (ε : GName). ‵ (ShrB μ ε) ⊛ ‵ (words.LentShared Ws κb (μ ∷ []) qb γb bb ob ws)))) (words.lends-shared Ws κb (μ ∷ []) qb γb bb ob 𝓤 H A W (named 1) (named 1) ws) $ await ! tt $ pick ! (λ ε. split ! $
+          use2 W (later (some (λ (ε : GName). ‵ (ShrB μ ε) ⊛ ‵ (words.LentRefShared Ws κb (μ ∷ []) qb γb bb ob ws)))) (words.lends-ref-shared Ws κb (μ ∷ []) qb γb bb ob 𝓤 H A W (named 1) (named 1) ws) $ await ! tt $ pick ! (λ ε. split ! $
           -- [ShrB; what is lent of the bank; μ; ShrT; what is lent of the table; ν; OwnL; its token; OwnI; its token, and true; …]
           assigns ! (addr ! (from ! (hop ! (look ! 62 refl) (stop !)))) (from ! (stop !)) (init ! 36 refl (tt, tt)) $
           use1 W (‵ (ShrB μ ε) ⊛ ‵ (ShrB μ ε)) (shr-copy 𝓤 H A W (named 1) (μ ∷ []) Ws .twice (w ε) (pb ∷ [])) $ split ! $
@@ -487,7 +487,7 @@ module _ {M : Type 1} (𝓤 : URA M) (H : Heap 𝓤) (A : Atoms 𝓤) (W : Given
           assigns ! (addr ! (from ! (fld ! refl (hop ! (look-in ! 62 (sub ! 0 refl (whole !))) (stop !))))) (from ! (stop !)) (init ! 20 refl (tt, tt)) $
           assigns ! (agg ! (and-then ! (load ! (from ! (stop !)) (look ! 20 refl)) (and-then ! (load ! (from ! (fld ! refl (stop !))) (look-in ! 62 (sub ! 1 refl (whole !)))) (no-more !)))) (from ! (stop !)) (init ! 18 refl (tt, (tt, (record { fits = room .0 }, tt)))) $
           -- μ ends, and the bank is back
-          split ! $ move ! (1 ∷ []) $ split ! $ lft-end ! tt $ move ! (0 ∷ 6 ∷ []) $ use2 W (later (‵ OwnB ⊛ ‵ (flft κb qb))) (words.comes-back Ws κb (μ ∷ []) qb γb bb ob 𝓤 H A W (named 1) (named 1) ws) $ await ! tt $ split ! $
+          split ! $ move ! (1 ∷ []) $ split ! $ lft-end ! tt $ move ! (0 ∷ 6 ∷ []) $ use2 W (later (‵ OwnB ⊛ ‵ (flft κb qb))) (words.ref-comes-back Ws κb (μ ∷ []) qb γb bb ob 𝓤 H A W (named 1) (named 1) ws) $ await ! tt $ split ! $
           -- [OwnB; its token; true; ν; ShrT; the input's token, and true; OwnI; the table's loan; OwnL; its token; …]
           nothing ! $ owned ! usize (Is usize) (uint-makes 𝓤 H A W w64) hit _ (refl, is₃ .1) $ fjoin ! $ move ! (5 ∷ 0 ∷ []) $ fjoin ! $ move ! (4 ∷ 3 ∷ []) $ join ! $ use2 W (raw (RowAt 𝓤 H A mem run .pre (to-row ν δ hit))) (row-asked ν δ hit) $
           -- [what row_at asks; OwnB; its token; the input's token, and true; OwnI; the table's loan; OwnL; its token; …]
