@@ -9,7 +9,7 @@ use second::filter::Filter;
 use second::generator;
 use second::random::Random;
 
-const STREAMS: u64 = 1500;
+const STREAMS: u64 = 6000;
 
 fn main() {
     let seed = std::env::args().nth(1).map_or(1, |word| word.parse().expect("a seed, in decimal"));
