@@ -11,10 +11,8 @@ SECOND = target/second/release
 export CARGO_TARGET_DIR = $(CURDIR)/target/second
 
 run:
-	@rt check scheduler_cases meter_cases gate_cases >/dev/null
-	@target/bin/scheduler_cases
-	@target/bin/meter_cases
-	@target/bin/gate_cases
+	@rt check ingress >/dev/null
+	@target/bin/ingress <crates/ingress/stdin
 
 test:
 	@.ci/run
