@@ -50,7 +50,8 @@ pub extern "C" fn transomrib_take(
     spelled(answer)
 }
 
-// Ruled out: the number of a refusal lost; the octets used counted for another verdict alone.
+// The answer as numbers.
+// Ruled out: the number of a refusal lost; a pass without its eligibility time.
 pub fn spelled(answer: Answer) -> Reply
     ensures { λ r. ⌜ r ≡ replyOf answer ⌝ }
 {
@@ -62,7 +63,7 @@ pub fn spelled(answer: Answer) -> Reply
         Verdict::Passed(p) => {
             Reply {
                 eligible: p.eligible,
-                used: used,
+                used,
                 verdict: 2,
                 number: 0,
                 priority: p.priority,
@@ -75,14 +76,15 @@ pub fn spelled(answer: Answer) -> Reply
     }
 }
 
+// A reply to all but a frame that passes.
 fn short(used: u64, verdict: u8, number: u8) -> Reply
     ensures { λ r. ⌜ r ≡ short used verdict number ⌝ }
 {
     Reply {
         eligible: 0,
-        used: used,
-        verdict: verdict,
-        number: number,
+        used,
+        verdict,
+        number,
         priority: 0,
         class: 0,
         drop_mark: 0,
@@ -132,6 +134,7 @@ fn flag(b: bool) -> u64
     b as u64
 }
 
+// 0 past the table.
 fn in_table(i: usize, size: usize, n: u64) -> u64
     ensures { λ r. ⌜ r ≡ inTable i size n ⌝ }
 {

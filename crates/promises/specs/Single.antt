@@ -1,0 +1,60 @@
+-- No second answer: every public contract is an equation with one definition, so two answers that meet it are equal. One law for each shape that
+-- the contracts have.
+use Prim.Native.Nat.{ℕ}
+use mathlib.Core.List.{List, [], _∷_}
+use mathlib.Core.Path.{_≡_, refl, sym, ap, _∙_}
+use lib.ListN.{length}
+use Rattle.bank.specs.Rows.{Rows, rowsOf, rows-tell}
+use Rattle.filter.specs.declared.Filter.{Filter}
+use Rattle.verdict.specs.declared.Verdict.{Verdict}
+use Rattle.verdict.specs.declared.Answer.{Answer}
+use Rattle.verdict.specs.Told.{Told, told}
+use Rattle.setup.specs.Setup.{Listed, listed}
+use Rattle.stage.specs.Take.{Bridge, Took, took, takeOf}
+use Rattle.promises.specs.Runs.{Call, runOf, answersOf}
+
+-- `r ≡ fooOf ..`: what is given by value, and a table, a scheduler or the view of a part that is lent (`now (table .exit) ≡ ..`, `viewOf r ≡ ..`)
+pub one-value : {A : Type 0} (meaning r r′ : A) → r ≡ meaning → r′ ≡ meaning → r ≡ r′
+one-value meaning r r′ e e′ = e ∙ sym e′
+
+-- `rowsOf (now (w .exit)) ≡ withFoo ..`: the bank is an array, so that both have the same length, and its rows tell every word of it
+pub one-bank : (meaning : Rows) (ws ws′ : List ℕ) → length ws ≡ length ws′ → rowsOf ws ≡ meaning → rowsOf ws′ ≡ meaning → ws ≡ ws′
+one-bank meaning ws ws′ same e e′ = rows-tell ws ws′ same (e ∙ sym e′)
+
+-- `told (rowsOf (now (bank .exit))) v ≡ fooOf ..`: a frame, a setup record, a start, a clear
+pub one-told : (meaning : Told) (ws ws′ : List ℕ) (v v′ : Verdict) → length ws ≡ length ws′ → told (rowsOf ws) v ≡ meaning → told (rowsOf ws′) v′ ≡ meaning → (ws ≡ ws′) × (v ≡ v′)
+one-told meaning ws ws′ v v′ same e e′ =
+    (one-bank (meaning .bank) ws ws′ same (ap (λ (t : Told). t .bank) e) (ap (λ (t : Told). t .bank) e′), one-value (meaning .verdict) v v′ (ap (λ (t : Told). t .verdict) e) (ap (λ (t : Told). t .verdict) e′))
+
+-- `listed (rowsOf (now (bank .exit))) (now (lists .exit)) v ≡ entryOf ..`: a gate entry
+pub one-listed : (meaning : Listed) (ws ws′ lists lists′ : List ℕ) (v v′ : Verdict) → length ws ≡ length ws′ → listed (rowsOf ws) lists v ≡ meaning → listed (rowsOf ws′) lists′ v′ ≡ meaning → (ws ≡ ws′) × ((lists ≡ lists′) × (v ≡ v′))
+one-listed meaning ws ws′ lists lists′ v v′ same e e′ = (
+  one-bank (meaning .bank) ws ws′ same (ap (λ (t : Listed). t .bank) e) (ap (λ (t : Listed). t .bank) e′),
+  (one-value (meaning .lists) lists lists′ (ap (λ (t : Listed). t .lists) e) (ap (λ (t : Listed). t .lists) e′), one-value (meaning .verdict) v v′ (ap (λ (t : Listed). t .verdict) e) (ap (λ (t : Listed). t .verdict) e′)),
+)
+
+-- `took (now (table .exit)) (rowsOf (now (bank .exit))) (now (lists .exit)) a ≡ takeOf ..`: a call. The table, every word of the bank, every octet
+-- of the lists and the answer are determined
+pub take-has-one-answer : (b : Bridge) (c : Call) (table table′ : List Filter) (ws ws′ lists lists′ : List ℕ) (a a′ : Answer) → length ws ≡ length ws′
+    → took table (rowsOf ws) lists a ≡ takeOf b c → took table′ (rowsOf ws′) lists′ a′ ≡ takeOf b c → (table ≡ table′) × ((ws ≡ ws′) × ((lists ≡ lists′) × (a ≡ a′)))
+take-has-one-answer b c table table′ ws ws′ lists lists′ a a′ same e e′ = (
+  one-value (takeOf b c .after .table) table table′ (ap (λ (o : Took). o .after .table) e) (ap (λ (o : Took). o .after .table) e′),
+  (
+    one-bank (takeOf b c .after .bank) ws ws′ same (ap (λ (o : Took). o .after .bank) e) (ap (λ (o : Took). o .after .bank) e′),
+    (one-value (takeOf b c .after .lists) lists lists′ (ap (λ (o : Took). o .after .lists) e) (ap (λ (o : Took). o .after .lists) e′), one-value (takeOf b c .answer) a a′ (ap (λ (o : Took). o .answer) e) (ap (λ (o : Took). o .answer) e′)),
+  ),
+)
+
+-- ---- every history. Calls one after another, each of which meets the contract on the bridge that the one before it left
+
+pub data History : Bridge → List Call → List Answer → Bridge → Type 0 where
+  done : {b : Bridge} → History b [] [] b
+  call : {b b′ b″ : Bridge} {c : Call} {cs : List Call} {a : Answer} {answers : List Answer} → took (b′ .table) (b′ .bank) (b′ .lists) a ≡ takeOf b c → History b′ cs answers b″ → History b (c ∷ cs) (a ∷ answers) b″
+
+-- its answers and the bridge that it leaves are those of the definitions, and so no other history fits
+pub history-is-run : {b b′ : Bridge} {cs : List Call} {answers : List Answer} → History b cs answers b′ → (b′ ≡ runOf b cs) × (answers ≡ answersOf b cs)
+unfolding runOf answersOf
+history-is-run done = (refl, refl)
+history-is-run (call {b = b} {c = c} {cs = cs} {answers = answers} e more) =
+    let rest = history-is-run more in
+    (rest .0 ∙ ap (λ (o : Took). runOf (o .after) cs) e, ap (λ (o : Took). o .answer ∷ answers) e ∙ ap (λ (xs : List Answer). takeOf b c .answer ∷ xs) (rest .1 ∙ ap (λ (o : Took). answersOf (o .after) cs) e))
