@@ -17,3 +17,4 @@ pub mod Counters
 pub mod Spoiled
 pub mod Starred
 pub mod Single
+pub mod Bursts

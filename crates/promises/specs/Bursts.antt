@@ -1,0 +1,15 @@
+-- Demand 3: what a larger burst of one scheduler does to a whole history. `Promise.antt` has the statement.
+pub mod Pairs
+pub mod Frames
+pub mod Outside
+pub mod Inside
+pub mod Found
+pub mod Clears
+pub mod Setups
+pub mod Turns
+pub mod Early
+pub mod Later
+pub mod Loose
+pub mod Calls
+pub mod Promise
+pub mod Worked

@@ -1,0 +1,81 @@
+-- Why the promise on bursts asks that the first history drops nothing of the group with 8: two histories, computed from their octets.
+-- A burst of 1500 instead of 1000 admits the second frame, too, which the first history drops; the third frame is then eligible later: at 12,000 instead of 8000 ns.
+use Prim.Native.Nat.{ℕ}
+use mathlib.Core.List.{List, [], _∷_}
+use mathlib.Core.Path.{_≡_, refl}
+use native.Mathlib.Omega.{arith}
+use Rattle.gate.specs.Meaning.{entriesFrom, cycleOf, foundOf, inForceOf, spentOf, limitedOf, passedOf, stepOf as gateStepOf}
+use Rattle.scheduler.specs.Step.{stepOf as schedulerStepOf, inRangeOf as schedulerInRangeOf, _and_}
+use Rattle.record.specs.Read.{readAs, readOf, numberOf}
+use Rattle.bank.specs.Rows.{withRow}
+use Rattle.filter.specs.Filter.{inRangeOf as rowInRangeOf, isFilterOf, missingOf, tooSmallOf, countsOf, fitsOf, answersOf, searchOf}
+use Rattle.verdict.specs.declared.Verdict.{Verdict}
+use Rattle.verdict.specs.declared.Verdict.the-variants.{Refused, Taken, Passed, Dropped}
+use Rattle.verdict.specs.Numbers.{dropNumberOf}
+use Rattle.setup.specs.Setup.{refusedIf, gateOf, groupOf, schedulerOf, someOf, startOf}
+use Rattle.path.specs.Path.{passOf, sduPassed, gatePassed, discarded, scheduledBy, scheduledOf, meteredOf, gatedBy, gatedOf, policedOf, arrivalOf}
+use Rattle.stage.specs.Take.{Bridge, takenOf, readBy, takeOf}
+use Rattle.promises.specs.Runs.{Call, fresh}
+use Rattle.promises.specs.Bursts.Promise.{Larger}
+
+-- what is seen of an answer: a setup record taken, a frame's eligibility time, the number of a drop or of a refusal
+pub data Seen : Type 0 where
+  taken : Seen
+  eligible : ℕ → Seen
+  drop : ℕ → Seen
+  refused : ℕ → Seen
+
+abbrev pub seenOf : Verdict → Seen
+seenOf (Refused r) = refused (numberOf r)
+seenOf Taken = taken
+seenOf (Passed p) = eligible (p .eligible)
+seenOf (Dropped d) = drop (dropNumberOf d)
+
+unfoldable pub seenIn : Bridge → List Call → List Seen
+seenIn b [] = []
+seenIn b (c ∷ cs) = seenOf (takeOf b c .answer .verdict) ∷ seenIn (takeOf b c .after) cs
+
+-- gate 0, open; group 0 with a residence of 6000 ns; scheduler 0 of it with a rate of 10^9 and a burst of two octets' number; filter 0 for every frame, max SDU 1000; start
+abbrev pub scheduler : ℕ → ℕ → Call
+scheduler high low = 7 ∷ 0 ∷ 0 ∷ 0 ∷ 0 ∷ 0 ∷ 0 ∷ 59 ∷ 154 ∷ 202 ∷ 0 ∷ 0 ∷ 0 ∷ high ∷ low ∷ []
+
+abbrev pub setUp : ℕ → ℕ → List Call → List Call
+setUp high low calls =
+    (3 ∷ 0 ∷ 1 ∷ 8 ∷ 0 ∷ 0 ∷ 0 ∷ 0 ∷ 0 ∷ 0 ∷ 0 ∷ 0 ∷ 0 ∷ 0 ∷ [])
+    ∷ (6 ∷ 0 ∷ 0 ∷ 0 ∷ 23 ∷ 112 ∷ [])
+    ∷ scheduler high low
+    ∷ (2 ∷ 0 ∷ 1 ∷ 0 ∷ 0 ∷ 0 ∷ 0 ∷ 8 ∷ 0 ∷ 3 ∷ 232 ∷ 0 ∷ 255 ∷ 0 ∷ [])
+    ∷ (8 ∷ 8 ∷ [])
+    ∷ calls
+
+-- three frames of 1000 octets, at 0, 0 and 6000 ns
+abbrev pub frames : List Call
+frames =
+    (9 ∷ 0 ∷ 0 ∷ 0 ∷ 0 ∷ 0 ∷ 0 ∷ 0 ∷ 0 ∷ 0 ∷ 0 ∷ 0 ∷ 0 ∷ 0 ∷ 0 ∷ 0 ∷ 3 ∷ 232 ∷ [])
+    ∷ (9 ∷ 0 ∷ 0 ∷ 0 ∷ 0 ∷ 0 ∷ 0 ∷ 0 ∷ 0 ∷ 0 ∷ 0 ∷ 0 ∷ 0 ∷ 0 ∷ 0 ∷ 0 ∷ 3 ∷ 232 ∷ [])
+    ∷ (9 ∷ 0 ∷ 0 ∷ 0 ∷ 0 ∷ 0 ∷ 0 ∷ 0 ∷ 23 ∷ 112 ∷ 0 ∷ 0 ∷ 0 ∷ 0 ∷ 0 ∷ 0 ∷ 3 ∷ 232 ∷ [])
+    ∷ []
+
+pub first-drops : seenIn fresh (setUp 3 232 frames) ≡ taken ∷ taken ∷ taken ∷ taken ∷ taken ∷ eligible 0 ∷ drop 8 ∷ eligible 8000 ∷ []
+unfolding seenIn fresh takeOf readBy takenOf readOf readAs withRow refusedIf gateOf groupOf schedulerOf someOf startOf rowInRangeOf isFilterOf missingOf tooSmallOf countsOf fitsOf answersOf searchOf passOf sduPassed gatePassed discarded scheduledBy scheduledOf meteredOf gatedBy gatedOf policedOf arrivalOf entriesFrom cycleOf foundOf inForceOf spentOf limitedOf passedOf gateStepOf schedulerStepOf schedulerInRangeOf _and_
+first-drops = refl
+
+pub second-admits : seenIn fresh (setUp 5 220 frames) ≡ taken ∷ taken ∷ taken ∷ taken ∷ taken ∷ eligible 0 ∷ eligible 4000 ∷ eligible 12_000 ∷ []
+unfolding seenIn fresh takeOf readBy takenOf readOf readAs withRow refusedIf gateOf groupOf schedulerOf someOf startOf rowInRangeOf isFilterOf missingOf tooSmallOf countsOf fitsOf answersOf searchOf passOf sduPassed gatePassed discarded scheduledBy scheduledOf meteredOf gatedBy gatedOf policedOf arrivalOf entriesFrom cycleOf foundOf inForceOf spentOf limitedOf passedOf gateStepOf schedulerStepOf schedulerInRangeOf _and_
+second-admits = refl
+
+-- the two calls in which the histories differ are such as the promise speaks of
+pub calls-differ : Larger (scheduler 3 232) (scheduler 5 220)
+unfolding readOf readAs
+calls-differ = record {
+  first = record { id = 0; group = 0; cir = record { 0 = 1_000_000_000 }; cbs = record { 0 = 1000 } };
+  second = record { id = 0; group = 0; cir = record { 0 = 1_000_000_000 }; cbs = record { 0 = 1500 } };
+  used = 15;
+  used′ = 15;
+  says = refl;
+  says′ = refl;
+  ids = refl;
+  groups = refl;
+  rates = refl;
+  bursts = omega arith;
+}
