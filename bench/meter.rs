@@ -2,6 +2,9 @@
 // Both are called through a function that is not inlined; both refuse numbers out of range; both see the same frames.
 // Before anything is timed, a million frames of every kind are compared, answers and states.
 // `bench/run.sh meter` builds and runs it.
+mod random;
+
+use random::Random;
 use std::hint::black_box;
 use std::time::Instant;
 
@@ -86,23 +89,6 @@ impl Meter {
             self.red_flag as u64, self.committed, self.excess, self.last,
             0, 0, 0, 0,
         ]
-    }
-}
-
-struct Random(u64);
-
-impl Random {
-    fn next(&mut self) -> u64 {
-        self.0 ^= self.0 << 13;
-        self.0 ^= self.0 >> 7;
-        self.0 ^= self.0 << 17;
-        self.0
-    }
-    fn below(&mut self, n: u64) -> u64 {
-        self.next() % n
-    }
-    fn one_of(&mut self, list: &[u64]) -> u64 {
-        list[self.below(list.len() as u64) as usize]
     }
 }
 

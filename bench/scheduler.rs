@@ -2,6 +2,9 @@
 // Both are called through a function that is not inlined; both refuse numbers out of range; both see the same frames.
 // Before anything is timed, a million frames of every kind are compared, answers and states.
 // `bench/run.sh scheduler` builds and runs it.
+mod random;
+
+use random::Random;
 use std::hint::black_box;
 use std::time::Instant;
 
@@ -60,25 +63,6 @@ impl Scheduler {
 
     fn words(&self) -> [u64; 8] {
         [self.rate, self.burst as u64, self.level, self.last, self.group, 0, 0, 0]
-    }
-}
-
-struct Random(u64);
-
-impl Random {
-    fn next(&mut self) -> u64 {
-        self.0 ^= self.0 << 13;
-        self.0 ^= self.0 >> 7;
-        self.0 ^= self.0 << 17;
-        self.0
-    }
-
-    fn below(&mut self, n: u64) -> u64 {
-        self.next() % n
-    }
-
-    fn one_of(&mut self, from: &[u64]) -> u64 {
-        from[self.below(from.len() as u64) as usize]
     }
 }
 
