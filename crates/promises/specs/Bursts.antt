@@ -1,4 +1,5 @@
--- Demand 3: what a larger burst of one scheduler does to a whole history. `Promise.antt` has the statement.
+-- Demand 3: what a larger burst of one scheduler does to a whole history. `Promise.antt` has the definitions, `Theorem.antt` the theorem.
+pub mod Promise
 pub mod Pairs
 pub mod Frames
 pub mod Outside
@@ -11,5 +12,5 @@ pub mod Early
 pub mod Later
 pub mod Loose
 pub mod Calls
-pub mod Promise
+pub mod Theorem
 pub mod Worked

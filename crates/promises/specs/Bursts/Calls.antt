@@ -9,7 +9,6 @@ use lib.Dec.{eqb}
 use lib.ListN.{length}
 use Rattle.record.specs.declared.Record.{Record}
 use Rattle.record.specs.declared.Record.the-variants as kind
-use Rattle.record.specs.declared.ArrivalRecord.{ArrivalRecord}
 use Rattle.record.specs.declared.Refusal.{Refusal}
 use Rattle.record.specs.declared.Refusal.the-variants.{TableLength}
 use Rattle.record.specs.declared.Reading.{Reading}
@@ -20,20 +19,13 @@ use Rattle.bank.specs.Rows.{Rows}
 use Rattle.bank.specs.Views.{isSet, word, schedulerRow, schedulerGroup}
 use Rattle.filter.specs.Filter.{rowOf}
 use Rattle.stage.specs.Take.{Bridge, Took, bridge, refusedOf, readBy, takenOf, startedOf, takeOf}
+use Rattle.promises.specs.Bursts.Promise.{matchOf, Framed, same, Eight}
 use Rattle.promises.specs.Bursts.Pairs.{apart, near-apart, with-constants, constantsIn}
 use Rattle.promises.specs.Bursts.Found.{fits-both}
-use Rattle.promises.specs.Bursts.Inside.{same, Eight}
 use Rattle.promises.specs.Bursts.Turns.{Turn, early, arrival, clear, turn-started, read-turn}
 use Rattle.promises.specs.Bursts.Early.{early-kept, early-checked}
-use Rattle.promises.specs.Bursts.Later.{matchOf, Grouped, Strong, Follows, clear-ahead, arrival-ahead}
+use Rattle.promises.specs.Bursts.Later.{Strong, Follows, clear-ahead, arrival-ahead}
 use Rattle.promises.specs.Bursts.Loose.{Weak, Loose, clear-loose, arrival-loose}
-
--- the call is a frame of the group
-pub record Framed (g : ℕ) (b : Bridge) (c : List ℕ) : Type 0 where
-  pub frame : ArrivalRecord
-  pub used : ℕ
-  pub reads : readOf c (startedOf (b .bank)) ≡ reading.Taken (kind.Arrival frame) used
-  pub grouped : Grouped g b frame
 
 module _ (b : Bridge) (c : List ℕ) where
   pub take-table : eqb (length (b .table)) 64 ≡ false → takeOf b c ≡ refusedOf b TableLength
@@ -177,7 +169,29 @@ module _ (g : ℕ) (b : Bridge) (s′ : Rows) (weak : Weak g b (bridge (b .table
       by-table true e = loose-reading e (readOf c (startedOf (b .bank))) refl
       by-table false e = refused-loose TableLength (take-table b c e) (take-table second c e)
 
+  -- a frame of the group in the first is one in the second
+  framed-second : Framed g b c → Framed g second c
+  framed-second f =
+      let started = turn-started (startedOf (b .bank)) (kind.Arrival (f .frame)) (read-turn c (startedOf (b .bank)) (kind.Arrival (f .frame)) (f .used) (f .reads)) (λ h. h) in
+      let found : matchOf b (f .frame) ≡ matchOf second (f .frame)
+      = fits-both (constantsIn (b .bank)) g (b .bank) s′ (with-constants apart g (b .bank) s′ (weak .banks)) (b .table) (f .frame .handle) (f .frame .priority) (weak .checked started) in
+      record {
+        frame = f .frame;
+        used = f .used;
+        reads = ap (readOf c) (sym start-same) ∙ f .reads;
+        grouped = record {
+          matched = omega (arith, found, f .grouped .matched);
+          scheduled = λ e. f .grouped .scheduled (ap (λ (n : ℕ). rowOf (b .table) n .scheduler) found ∙ e);
+          in-group = sym (weak .banks (schedulerRow (rowOf (b .table) (matchOf second (f .frame)) .scheduler)) .named (omega arith)) ∙ ap (λ (n : ℕ). schedulerGroup (b .bank) (rowOf (b .table) n .scheduler)) (sym found) ∙ f .grouped .in-group;
+        };
+      }
+
 pub call-loose : (g : ℕ) (b b′ : Bridge) → Weak g b b′ → (c : List ℕ) → startedAfter (takeOf b c) ≡ startedAfter (takeOf b′ c) → Loose g (Framed g b c) (takeOf b c) (takeOf b′ c)
 call-loose g b b′ weak c =
     subst (λ (y : Bridge). startedAfter (takeOf b c) ≡ startedAfter (takeOf y c) → Loose g (Framed g b c) (takeOf b c) (takeOf y c)) (rebuilt b b′ (weak .tables) (weak .lists))
     (loose-core g b (b′ .bank) (record { tables = refl; lists = refl; near = weak .near; banks = weak .banks; checked = weak .checked }) c)
+
+pub framed-on : (g : ℕ) (b b′ : Bridge) → Weak g b b′ → (c : List ℕ) → Framed g b c → Framed g b′ c
+framed-on g b b′ weak c =
+    subst (λ (y : Bridge). Framed g b c → Framed g y c) (rebuilt b b′ (weak .tables) (weak .lists))
+    (framed-second g b (b′ .bank) (record { tables = refl; lists = refl; near = weak .near; banks = weak .banks; checked = weak .checked }) c)

@@ -1,5 +1,5 @@
 -- Step 5 on the two banks, for a frame whose filter names a scheduler of the group.
-use Prim.Native.Nat.{ℕ, _+_, _-_, _≤_, _<_}
+use Prim.Native.Nat.{ℕ, _%_, _+_, _-_, _≤_, _<_}
 use mathlib.Core.Bool.{Bool, true, false}
 use mathlib.Core.List.{List}
 use mathlib.Core.Logic.{_≢_}
@@ -9,6 +9,7 @@ use borrow.Author.Tests.{leb-true, leb-false}
 use lib.Dec.{leb}
 use Rattle.bucket.specs.declared.Octets.{Octets}
 use Rattle.bucket.specs.Bucket.{grains}
+use Rattle.class.specs.Table.{trafficClassOf}
 use Rattle.scheduler.specs.declared.Scheduler.{Scheduler}
 use Rattle.scheduler.specs.declared.Stepped.{Stepped}
 use Rattle.scheduler.specs.declared.Outcome.{Outcome as SchedulerOutcome}
@@ -19,15 +20,13 @@ use Rattle.scheduler.specs.Cases.{step-refused, step-dropped}
 use Rattle.scheduler.specs.Larger.{Ahead, larger-burst}
 use Rattle.record.specs.declared.ArrivalRecord.{ArrivalRecord}
 use Rattle.bank.specs.Rows.{Rows}
-use Rattle.bank.specs.Views.{word, portRow, groupRow, schedulerRow, rowOfDiscarded, rowOfSchedulerState, schedulerOf, scheduler, group, withSchedulerState, withGroupLast}
+use Rattle.bank.specs.Views.{stage, word, portRow, groupRow, schedulerRow, rowOfDiscarded, rowOfSchedulerState, schedulerOf, scheduler, group, withSchedulerState, withGroupLast}
 use Rattle.filter.specs.declared.Filter.{Filter}
-use Rattle.verdict.specs.declared.Drop.the-variants as drop
-use Rattle.verdict.specs.declared.Pass.{Pass}
 use Rattle.verdict.specs.declared.Verdict.{Verdict}
-use Rattle.verdict.specs.declared.Verdict.the-variants.{Passed, Dropped}
 use Rattle.verdict.specs.Told.{Told}
-use Rattle.path.specs.Path.{next, passOf, discarded, lengthOf, offeredOf, scheduledBy, scheduledOf, arrivalOf}
+use Rattle.path.specs.Path.{next, classOf, passOf, discarded, lengthOf, offeredOf, scheduledBy, scheduledOf, arrivalOf}
 use Rattle.path.specs.Cases.{scheduled-by}
+use Rattle.promises.specs.Bursts.Promise.{Sooner, same, sooner, Eight}
 use Rattle.promises.specs.Bursts.Pairs.{groupIn, Asked, Constants, At, Over, put, put-left, put-right, near, apart, GroupNear, SchedulerNear}
 use Rattle.promises.specs.Bursts.Frames.{pass-both, arrival-both}
 use Rattle.promises.specs.Bursts.Outside.{port-at, group-at, scheduler-at, fixed-state, Fair, length-both}
@@ -38,15 +37,10 @@ near-fair = record { overheads = λ u v e. ap (λ (w : List ℕ). word w 1) e; d
 pub apart-fair : Fair apart
 apart-fair = record { overheads = λ u v e. e .overhead; discards = λ u v e. record { overhead = e .overhead } }
 
--- ---- verdicts that differ in nothing but an eligibility time, which is no later in the second
-
-pub data Sooner : Verdict → Verdict → Type 0 where
-  same : {v v′ : Verdict} → v ≡ v′ → Sooner v v′
-  sooner : (p : Pass) (at : ℕ) → at ≤ p .eligible → Sooner (Passed p) (Passed (record { priority = p .priority; class = p .class; «drop_mark» = p .«drop_mark»; timed = p .timed; eligible = at }))
-
--- drop 8
-abbrev pub Eight : Verdict → Type 0
-Eight v = v ≡ Dropped drop.Residence
+-- one pass at two times
+sooner-pass : (s : Rows) (priority mark at at′ : ℕ) → at′ ≤ at → Sooner (passOf s priority mark true at) (passOf s priority mark true at′)
+unfolding passOf
+sooner-pass s priority mark at at′ h = sooner (record { priority = priority; class = classOf (trafficClassOf priority (stage s .classes % 256)); «drop_mark» = mark; timed = true; eligible = at }) at′ (omega arith)
 
 -- unless the first drops the frame with 8
 pub record Leads (k : Asked) (z : Constants) (g : ℕ) (t t′ : Told) : Type 0 where
@@ -85,20 +79,20 @@ module _ (z : Constants) (g : ℕ) (a : ArrivalRecord) (row : Filter) (some : ro
     stepped =
         put (At near z g) s s′ o (schedulerRow i) _ _
         (scheduler-at near z g (schedulerRow i) _ _ (omega arith) (o (schedulerRow i) .pair .set (omega arith)) (o (schedulerRow i) .pair .named (omega arith))
-        (λ n. absurd (n named)) (λ _. record { ahead = ahead; burst = x-near .burst; level = level }) (fixed-state z (schedulerRow i) _ x (omega arith) (o (schedulerRow i) .fixed)))
+        (λ n. absurd (n named)) (λ _. record { ahead = ahead; burst = x-near .burst; level = omega (arith, level) }) (fixed-state z (schedulerRow i) _ x (omega arith) (o (schedulerRow i) .fixed)))
 
     admitted-near : Over near z g (withGroupLast (withSchedulerState s i x) g at) (withGroupLast (withSchedulerState s′ i x′) g at′)
     admitted-near =
         let w : GroupNear (withSchedulerState s i x (groupRow g)) (withSchedulerState s′ i x′ (groupRow g)) = stepped (groupRow g) .pair .group place small in
         put (At near z g) (withSchedulerState s i x) (withSchedulerState s′ i x′) stepped (groupRow g) _ _
-        (group-at near z g (groupRow g) _ _ (omega arith) (omega arith) (λ n. absurd (n place)) (λ _. record { set = w .set; residence = w .residence; last = no-later }))
+        (group-at near z g (groupRow g) _ _ (omega arith) (omega arith) (λ n. absurd (n place)) (λ _. record { set = w .set; residence = w .residence; last = omega (arith, no-later) }))
 
     admitted-told : (priority mark : ℕ) → Leads near z g (scheduledBy s a i g priority mark x (Admitted at)) (scheduledBy s′ a i g priority mark x′ (Admitted at′))
     unfolding scheduledBy passOf
     admitted-told priority mark = record {
       verdicts = subst (λ (v : Verdict). Sooner (passOf (withGroupLast (withSchedulerState s i x) g at) priority mark true at) v)
           (pass-both near z g _ _ admitted-near priority mark true at′)
-          (sooner _ at′ no-later);
+          (sooner-pass (withGroupLast (withSchedulerState s i x) g at) priority mark at at′ no-later);
       banks = admitted-near;
     }
 
@@ -136,7 +130,7 @@ module _ (z : Constants) (g : ℕ) (a : ArrivalRecord) (row : Filter) (some : ro
         → Unless near z g (scheduledOf s a row priority mark) (scheduledOf s′ a row priority mark)
     by-limit e false l n = absurd (n (not-late _ (step-dropped x₀ (group s g .last) (group s g .residence) (a .time) len e _ refl (leb-false _ _ l)) refl))
     by-limit e true l n =
-        let both = larger-burst x₀ x₀′ (group s g .last) (group s′ g .last) (group s g .residence) (a .time) len (x-near .ahead) (group-near .last) (x-near .burst) (x-near .level) e (leb-true _ _ l) in
+        let both = larger-burst x₀ x₀′ (group s g .last) (group s′ g .last) (group s g .residence) (a .time) len (x-near .ahead) (omega (arith, group-near .last)) (x-near .burst) (omega (arith, x-near .level)) e (leb-true _ _ l) in
         rw (first-is _ (both .0), second-is _ (offered-second _ (both .1)))
         (admitted-told _ _ _ _ (both .3) (omega arith) (both .2) priority mark)
 
@@ -168,9 +162,6 @@ module _ (z : Constants) (g : ℕ) (a : ArrivalRecord) (row : Filter) (some : ro
 
     at-group : groupRow g ≡ 137 + g
     at-group = omega (arith, below)
-
-    at-port : 1 ≤ portRow (a .port)
-    at-port = omega arith
 
     left-scheduler : (x : Scheduler) → Over apart z g (withSchedulerState s (row .scheduler) x) s′
     left-scheduler x =

@@ -1,8 +1,7 @@
 -- An arrival or a clear on two bridges, after the first took its start.
-use Prim.Native.Nat.{ℕ, _<_}
+use Prim.Native.Nat.{ℕ}
 use mathlib.Core.Bool.{Bool, true, false}
 use mathlib.Core.List.{List}
-use mathlib.Core.Logic.{_≢_}
 use mathlib.Core.Path.{_≡_, refl, ap, subst, _∙_}
 use native.Mathlib.Omega.{arith}
 use native.Mathlib.Decide.{ℕ-discrete}
@@ -14,31 +13,18 @@ use Rattle.record.specs.declared.ClearRecord.{ClearRecord}
 use Rattle.bank.specs.Rows.{Rows}
 use Rattle.bank.specs.Views.{schedulerGroup}
 use Rattle.filter.specs.declared.Filter.{Filter}
-use Rattle.filter.specs.declared.Asks.the-variants.{Fits}
 use Rattle.filter.specs.Filter.{rowOf}
 use Rattle.verdict.specs.declared.Verdict.{Verdict}
 use Rattle.verdict.specs.declared.Verdict.the-variants.{Refused, Taken, Passed, Dropped}
 use Rattle.verdict.specs.Told.{Told}
 use Rattle.path.specs.Path.{arrivalOf}
-use Rattle.stage.specs.Take.{Bridge, Took, bridge, answered, banked, firstRow, takenOf, startedOf}
+use Rattle.stage.specs.Take.{Bridge, Took, bridge, answered, banked, takenOf, startedOf}
+use Rattle.promises.specs.Bursts.Promise.{matchOf, matchedRow, Grouped, Sooner, same, sooner, Eight}
 use Rattle.promises.specs.Bursts.Pairs.{Asked, Constants, Over, near, apart, Near, near-apart, with-constants, constantsIn}
 use Rattle.promises.specs.Bursts.Found.{Checked, counts-both, fits-both, checked-fixed}
 use Rattle.promises.specs.Bursts.Outside.{Fair, Alike, arrival-outside}
-use Rattle.promises.specs.Bursts.Inside.{near-fair, Sooner, same, sooner, Eight, Leads, arrival-near}
+use Rattle.promises.specs.Bursts.Inside.{near-fair, Leads, arrival-near}
 use Rattle.promises.specs.Bursts.Clears.{clear-both}
-
--- ---- frames of the group: their matched filter names a scheduler of it (whether or not they get that far)
-
-abbrev pub matchOf : Bridge → ArrivalRecord → ℕ
-matchOf b a = firstRow b Fits (a .handle) (a .priority)
-
-abbrev pub matchedRow : Bridge → ArrivalRecord → Filter
-matchedRow b a = rowOf (b .table) (matchOf b a)
-
-pub record Grouped (g : ℕ) (b : Bridge) (a : ArrivalRecord) : Type 0 where
-  pub matched : matchOf b a < 64
-  pub scheduled : matchedRow b a .scheduler ≢ 255
-  pub in-group : schedulerGroup (b .bank) (matchedRow b a .scheduler) ≡ g
 
 pub is-grouped : (g : ℕ) (b : Bridge) (a : ArrivalRecord) → Dec (Grouped g b a)
 is-grouped g b a = by-tests (ltb (matchOf b a) 64) refl (ℕ-discrete (matchedRow b a .scheduler) 255) (ℕ-discrete (schedulerGroup (b .bank) (matchedRow b a .scheduler)) g)

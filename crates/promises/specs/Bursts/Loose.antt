@@ -12,11 +12,12 @@ use Rattle.bank.specs.Views.{isSet}
 use Rattle.filter.specs.Filter.{rowOf}
 use Rattle.path.specs.Path.{arrivalOf}
 use Rattle.stage.specs.Take.{Bridge, Took, bridge, answered, banked, takenOf, startedOf}
+use Rattle.promises.specs.Bursts.Promise.{matchOf, matchedRow, Grouped}
 use Rattle.promises.specs.Bursts.Pairs.{Constants, Over, apart, Near, Apart, with-constants, constantsIn}
 use Rattle.promises.specs.Bursts.Found.{Checked, counts-both, fits-both, checked-fixed}
 use Rattle.promises.specs.Bursts.Inside.{apart-fair, arrival-apart}
 use Rattle.promises.specs.Bursts.Clears.{clear-both}
-use Rattle.promises.specs.Bursts.Later.{matchOf, matchedRow, Grouped, is-grouped, outside-alike}
+use Rattle.promises.specs.Bursts.Later.{is-grouped, outside-alike}
 
 -- before the start the two are near, too: no frame has come
 pub record Weak (g : ℕ) (b b′ : Bridge) : Type 0 where

@@ -1,37 +1,56 @@
--- The promise on bursts. Two histories from the fresh bridge are equal but for one call, which sets up one scheduler with a larger burst in the second; both take their start at the same call.
+-- The promise on bursts: what it says of two histories from the fresh bridge that are equal but for one call, which sets up one scheduler with a larger burst in the second, and that take their start at the same call.
 -- As long as the first drops no frame of that scheduler's group with 8, the second drops none either, no frame is eligible later in it, and every other part of every answer, every counter and every flag is equal.
--- And frames outside the group get the very same answers, whatever happens inside it.
-use Prim.Native.Nat.{ℕ, _+_, _<_}
-use mathlib.Core.Bool.{Bool, true, false, true≢false}
-use mathlib.Core.List.{List, [], _∷_, _++_}
-use mathlib.Core.Path.{_≡_, refl, sym, ap, subst, _∙_}
-use native.Mathlib.Omega.{arith}
-use borrow.Author.Tests.{leb-true, leb-false, eqb-true}
-use lib.Dec.{eqb, leb}
-use lib.ListN.{length}
+-- And what is no frame of the group gets the very same answers, whatever happens inside it. That it holds is `larger-burst` in `Bursts.antt`.
+use Prim.Native.Nat.{ℕ, _≤_, _<_}
+use mathlib.Core.Bool.{false}
+use mathlib.Core.List.{List, [], _∷_}
+use mathlib.Core.Logic.{_≢_}
+use mathlib.Core.Path.{_≡_}
 use Rattle.record.specs.declared.Record.the-variants as kind
+use Rattle.record.specs.declared.ArrivalRecord.{ArrivalRecord}
 use Rattle.record.specs.declared.SchedulerRecord.{SchedulerRecord}
-use Rattle.record.specs.declared.Refusal.{Refusal}
-use Rattle.record.specs.declared.Refusal.the-variants.{OutOfTurn, TableLength}
 use Rattle.record.specs.declared.Reading.the-variants as reading
-use Rattle.record.specs.Kinds.{scheduler}
-use Rattle.record.specs.Read.{kindIn, lengthOf, lengthIn, inTurnOf, readOf}
-use Rattle.record.specs.Cases.{length-positive, read-turn}
-use Rattle.record.specs.Laws.{record-kind, read-says, read-kind}
-use Rattle.record.specs.Ranges.{read-ranges}
-use Rattle.bank.specs.Rows.{Rows}
+use Rattle.record.specs.Read.{readOf}
+use Rattle.bank.specs.Views.{groupRow, schedulerRow, schedulerGroup}
+use Rattle.filter.specs.declared.Filter.{Filter}
+use Rattle.filter.specs.declared.Asks.the-variants.{Fits}
+use Rattle.filter.specs.Filter.{rowOf}
+use Rattle.verdict.specs.declared.Drop.the-variants as drop
+use Rattle.verdict.specs.declared.Pass.{Pass}
 use Rattle.verdict.specs.declared.Verdict.{Verdict}
-use Rattle.setup.specs.Setup.{schedulerOf as setUpOf}
-use mathlib.Core.Logic.{_⊎_, inl, inr}
-use Rattle.stage.specs.Take.{Bridge, Took, answered, refusedOf, takenOf, startedOf, takeOf}
-use Rattle.promises.specs.Bursts.Pairs.{Near, near-apart, near}
-use Rattle.promises.specs.Bursts.Inside.{Sooner, same, sooner, Eight}
-use Rattle.promises.specs.Bursts.Setups.{scheduler-differs}
-use Rattle.promises.specs.Bursts.Early.{early-checked}
-use Rattle.promises.specs.Bursts.Later.{Strong}
-use Rattle.promises.specs.Bursts.Loose.{Weak}
-use Rattle.promises.specs.Bursts.Calls.{Framed, take-table, take-refused, take-taken, call-ahead, framed-back, call-loose}
-use Rattle.promises.specs.Runs.{Call, runOf, fresh}
+use Rattle.verdict.specs.declared.Verdict.the-variants.{Passed, Dropped}
+use Rattle.stage.specs.Take.{Bridge, Took, firstRow, startedOf, takeOf}
+use Rattle.promises.specs.Runs.{Call, runOf}
+
+-- ---- frames of the group: their matched filter names a scheduler of it (whether or not they get that far)
+
+abbrev pub matchOf : Bridge → ArrivalRecord → ℕ
+matchOf b a = firstRow b Fits (a .handle) (a .priority)
+
+abbrev pub matchedRow : Bridge → ArrivalRecord → Filter
+matchedRow b a = rowOf (b .table) (matchOf b a)
+
+pub record Grouped (g : ℕ) (b : Bridge) (a : ArrivalRecord) : Type 0 where
+  pub matched : matchOf b a < 64
+  pub scheduled : matchedRow b a .scheduler ≢ 255
+  pub in-group : schedulerGroup (b .bank) (matchedRow b a .scheduler) ≡ g
+
+-- the call is a frame of the group
+pub record Framed (g : ℕ) (b : Bridge) (c : Call) : Type 0 where
+  pub frame : ArrivalRecord
+  pub used : ℕ
+  pub reads : readOf c (startedOf (b .bank)) ≡ reading.Taken (kind.Arrival frame) used
+  pub grouped : Grouped g b frame
+
+-- ---- verdicts that differ in nothing but an eligibility time, which is no later in the second
+
+pub data Sooner : Verdict → Verdict → Type 0 where
+  same : {v v′ : Verdict} → v ≡ v′ → Sooner v v′
+  sooner : (p : Pass) (at : ℕ) → at ≤ p .eligible → Sooner (Passed p) (Passed (record { priority = p .priority; class = p .class; «drop_mark» = p .«drop_mark»; timed = p .timed; eligible = at }))
+
+-- drop 8
+abbrev pub Eight : Verdict → Type 0
+Eight v = v ≡ Dropped drop.Residence
 
 -- ---- what is said of two runs of the same calls
 
@@ -50,85 +69,18 @@ abbrev pub NoLater : Bridge → Bridge → List Call → Type 0
 NoLater b b′ [] = Unit {0}
 NoLater b b′ (c ∷ cs) = ((takeOf b c .answer .used ≡ takeOf b′ c .answer .used) × Sooner (takeOf b c .answer .verdict) (takeOf b′ c .answer .verdict)) × NoLater (takeOf b c .after) (takeOf b′ c .after) cs
 
--- each call that is no frame of the group has the same answer
+-- each call that is no frame of the group has the same answer; and a frame of the group in the first is one in the second
 abbrev pub SameOutside : ℕ → Bridge → Bridge → List Call → Type 0
 SameOutside g b b′ [] = Unit {0}
-SameOutside g b b′ (c ∷ cs) = ((Framed g b c → ⊥) → takeOf b c .answer ≡ takeOf b′ c .answer) × SameOutside g (takeOf b c .after) (takeOf b′ c .after) cs
+SameOutside g b b′ (c ∷ cs) = (((Framed g b c → ⊥) → takeOf b c .answer ≡ takeOf b′ c .answer) × (Framed g b c → Framed g b′ c)) × SameOutside g (takeOf b c .after) (takeOf b′ c .after) cs
 
--- the filter table, the gate lists, and every row of the stage, the ports, the filters' counters, the gates and the meters
-pub record SameBesides (b b′ : Bridge) : Type 0 where
+-- the filter table, the gate lists, and every row but those of the group and of its schedulers: `rows` are those of the stage, the ports, the filters' counters, the gates and the meters
+pub record SameBesides (g : ℕ) (b b′ : Bridge) : Type 0 where
   pub tables : b .table ≡ b′ .table
   pub lists : b .lists ≡ b′ .lists
   pub rows : (q : ℕ) → q < 137 → b .bank q ≡ b′ .bank q
-
--- ---- runs of the same calls
-
-eight-back : (v v′ : Verdict) → Sooner v v′ → Eight v′ → Eight v
-eight-back v v′ (same e) h = e ∙ h
-eight-back v v′ (sooner p at l) h = absurd (let w : _≡_ {A = ℕ} 0 1 = cc in omega arith)
-
-near-rows : (g : ℕ) (s s′ : Rows) → Near g s s′ → (q : ℕ) → q < 137 → s q ≡ s′ q
-near-rows g s s′ o q h = by-place (leb 1 q) (leb q 8) refl refl
-  where
-    by-place : (t u : Bool) → leb 1 q ≡ t → leb q 8 ≡ u → s q ≡ s′ q
-    by-place true true e l = o q .ports (leb-true 1 q e) (leb-true q 8 l)
-    by-place true false e l = o q .outer ((λ _. leb-false q 8 l), h)
-    by-place false u e l = o q .outer ((λ m. absurd (omega (arith, m, leb-false 1 q e))), h)
-
-pub near-run : (g : ℕ) (b b′ : Bridge) → Strong g b b′ → (cs : List Call) → StartTogether b b′ cs → Spared g b cs → NoLater b b′ cs × Spared g b′ cs × Strong g (runOf b cs) (runOf b′ cs)
-unfolding runOf
-near-run g b b′ strong [] together spared = (tt, tt, strong)
-near-run g b b′ strong (c ∷ cs) together spared =
-    let h = call-ahead g b b′ strong c (together .0) (spared .0) in
-    let k = near-run g (takeOf b c .after) (takeOf b′ c .after) (h .after) cs (together .1) (spared .1) in
-    (((h .used, h .verdicts), k .0), ((λ f e. spared .0 (framed-back g b b′ strong c f) (eight-back (takeOf b c .answer .verdict) (takeOf b′ c .answer .verdict) (h .verdicts) e)), k .1), k .2)
-
-pub loose-run : (g : ℕ) (b b′ : Bridge) → Weak g b b′ → (cs : List Call) → StartTogether b b′ cs → SameOutside g b b′ cs × Weak g (runOf b cs) (runOf b′ cs)
-unfolding runOf
-loose-run g b b′ weak [] together = (tt, weak)
-loose-run g b b′ weak (c ∷ cs) together =
-    let h = call-loose g b b′ weak c (together .0) in
-    let k = loose-run g (takeOf b c .after) (takeOf b′ c .after) (h .after) cs (together .1) in
-    ((h .answers, k .0), k .1)
-
--- ---- the fresh bridge
-
-fresh-near : (g : ℕ) → Near g (fresh .bank) (fresh .bank)
-unfolding fresh
-fresh-near g q = record {
-  outer = λ _. refl;
-  ports = λ _ _. refl;
-  groups = λ _ _ _. refl;
-  group = λ _ _. record { set = refl; residence = refl; last = omega arith };
-  set = λ _. refl;
-  named = λ _. refl;
-  schedulers = λ _ _. refl;
-  scheduler = λ _ _. record { ahead = record { rates = refl; bursts = omega arith; lasts = omega arith; levels = λ _ _. omega arith }; burst = omega arith; level = omega arith };
-}
-
-fresh-unstarted : startedOf (fresh .bank) ≡ false
-unfolding fresh
-fresh-unstarted = refl
-
-fresh-weak : (g : ℕ) → Weak g fresh fresh
-fresh-weak g = record {
-  tables = refl;
-  lists = refl;
-  near = λ _. fresh-near g;
-  banks = near-apart g (fresh .bank) (fresh .bank) (fresh-near g);
-  checked = λ e. absurd (true≢false (sym e ∙ fresh-unstarted));
-}
-
-together-itself : (b : Bridge) (cs : List Call) → StartTogether b b cs
-together-itself b [] = tt
-together-itself b (c ∷ cs) = (refl, together-itself (takeOf b c .after) cs)
-
-no-later-itself : (b : Bridge) (cs : List Call) → NoLater b b cs
-no-later-itself b [] = tt
-no-later-itself b (c ∷ cs) = ((refl, same refl), no-later-itself (takeOf b c .after) cs)
-
-reached-weak : (g : ℕ) (cs : List Call) → Weak g (runOf fresh cs) (runOf fresh cs)
-reached-weak g cs = loose-run g fresh fresh (fresh-weak g) cs (together-itself fresh cs) .1
+  pub groups : (j : ℕ) → groupRow j ≢ groupRow g → b .bank (groupRow j) ≡ b′ .bank (groupRow j)
+  pub schedulers : (i : ℕ) → schedulerGroup (b .bank) i ≢ g → b .bank (schedulerRow i) ≡ b′ .bank (schedulerRow i)
 
 -- ---- the call in which the two histories differ
 
@@ -145,56 +97,6 @@ pub record Larger (c c′ : Call) : Type 0 where
   pub rates : second .cir ≡ first .cir
   pub bursts : first .cbs .0 < second .cbs .0
 
--- the octets of a scheduler's record
-says-used : (c : Call) (r : SchedulerRecord) (used : ℕ) → readOf c false ≡ reading.Taken (kind.Scheduler r) used → used ≡ lengthOf scheduler
-says-used c r used e =
-    let y = read-says c false (kind.Scheduler r) used e in
-    sym (y .uses) ∙ ap lengthOf (sym (record-kind (y .kind) _) ∙ ap kindIn (y .is))
-
--- after a start it is out of turn
-out-of-turn : (c : Call) (r : SchedulerRecord) (used : ℕ) → readOf c false ≡ reading.Taken (kind.Scheduler r) used → readOf c true ≡ reading.Refused OutOfTurn
-out-of-turn c r used e =
-    let y = read-says c false (kind.Scheduler r) used e in
-    read-turn c true (λ z. omega (arith, y .whole, length-positive (y .kind), z)) (lengthOf (y .kind)) (sym (ap lengthIn (y .said))) (λ z. omega (arith, length-positive (y .kind), z)) (y .whole)
-    (ap (λ (n : ℕ). inTurnOf n true) (sym (read-kind c false (kind.Scheduler r) used e)))
-
-record Parted (g : ℕ) (o o′ : Took) : Type 0 where
-  answers : o .answer ≡ o′ .answer
-  after : (o .after ≡ o′ .after) ⊎ Strong g (o .after) (o′ .after)
-  weak : Weak g (o .after) (o′ .after)
-
-module _ (b : Bridge) (c c′ : Call) (l : Larger c c′) (weak : Weak (l .first .group) b b) where
-  abbrev g : ℕ
-  g = l .first .group
-
-  refused-parted : (why : Refusal) → takeOf b c ≡ refusedOf b why → takeOf b c′ ≡ refusedOf b why → Parted g (takeOf b c) (takeOf b c′)
-  refused-parted why e e′ = rw (e, e′) (record { answers = refl; after = inl refl; weak = weak })
-
-  taken-parted : eqb (length (b .table)) 64 ≡ true → startedOf (b .bank) ≡ false → Parted g (takenOf b c (kind.Scheduler (l .first)) (l .used)) (takenOf b c′ (kind.Scheduler (l .second)) (l .used′))
-  unfolding takenOf
-  taken-parted whole st =
-      let range = read-ranges c false (kind.Scheduler (l .first)) (l .used) (l .says) in
-      let range′ = read-ranges c′ false (kind.Scheduler (l .second)) (l .used′) (l .says′) in
-      let h = scheduler-differs g (b .bank) (b .bank) (weak .near st) (l .first) (l .second) refl (omega (arith, range .1 .1 .0)) (l .ids) (l .groups) (l .rates) (omega (arith, l .bursts)) (range′ .1 .1 .1 .1 .0 .1) in
-      let checked = early-checked b c (eqb-true _ _ whole) st (kind.Scheduler (l .first)) (l .used) tt in
-      record {
-        answers = ap (answered (l .used)) (h .verdicts) ∙ ap (λ (n : ℕ). answered n (setUpOf (b .bank) (l .second) .verdict)) (says-used c (l .first) (l .used) (l .says) ∙ sym (says-used c′ (l .second) (l .used′) (l .says′)));
-        after = inr (record { tables = refl; lists = refl; banks = h .banks; checked = checked });
-        weak = record { tables = refl; lists = refl; near = λ _. h .banks; banks = near-apart g _ _ (h .banks); checked = checked };
-      }
-
-  parted : Parted g (takeOf b c) (takeOf b c′)
-  parted = by-tests (eqb (length (b .table)) 64) (startedOf (b .bank)) refl refl
-    where
-      by-tests : (t u : Bool) → eqb (length (b .table)) 64 ≡ t → startedOf (b .bank) ≡ u → Parted g (takeOf b c) (takeOf b c′)
-      by-tests false u e st = refused-parted TableLength (take-table b c e) (take-table b c′ e)
-      by-tests true true e st =
-          refused-parted OutOfTurn (take-refused b c OutOfTurn e (ap (readOf c) st ∙ out-of-turn c (l .first) (l .used) (l .says)))
-          (take-refused b c′ OutOfTurn e (ap (readOf c′) st ∙ out-of-turn c′ (l .second) (l .used′) (l .says′)))
-      by-tests true false e st =
-          rw (take-taken b c (kind.Scheduler (l .first)) (l .used) e (ap (readOf c) st ∙ l .says), take-taken b c′ (kind.Scheduler (l .second)) (l .used′) e (ap (readOf c′) st ∙ l .says′))
-          (taken-parted e st)
-
 -- ---- the promise
 
 -- `o` and `o′` are what the differing call did, `cs` the calls after it
@@ -202,44 +104,5 @@ pub record Promise (g : ℕ) (o o′ : Took) (cs : List Call) : Type 0 where
   pub answers : o .answer ≡ o′ .answer
   pub no-later : Spared g (o .after) cs → NoLater (o .after) (o′ .after) cs
   pub spared : Spared g (o .after) cs → Spared g (o′ .after) cs
-  pub besides : Spared g (o .after) cs → SameBesides (runOf (o .after) cs) (runOf (o′ .after) cs)
+  pub besides : Spared g (o .after) cs → SameBesides g (runOf (o .after) cs) (runOf (o′ .after) cs)
   pub outside : SameOutside g (o .after) (o′ .after) cs
-
-promise-equal : (g : ℕ) (o o′ : Took) (cs : List Call) → o .answer ≡ o′ .answer → o .after ≡ o′ .after → SameOutside g (o .after) (o′ .after) cs → Promise g o o′ cs
-promise-equal g o o′ cs a e out = record {
-  answers = a;
-  no-later = λ _. subst (λ (y : Bridge). NoLater (o .after) y cs) e (no-later-itself (o .after) cs);
-  spared = λ h. subst (λ (y : Bridge). Spared g y cs) e h;
-  besides = λ _. subst (λ (y : Bridge). SameBesides (runOf (o .after) cs) (runOf y cs)) e (record { tables = refl; lists = refl; rows = λ _ _. refl });
-  outside = out;
-}
-
-promise-near : (g : ℕ) (o o′ : Took) (cs : List Call) → o .answer ≡ o′ .answer → Strong g (o .after) (o′ .after) → StartTogether (o .after) (o′ .after) cs → SameOutside g (o .after) (o′ .after) cs → Promise g o o′ cs
-promise-near g o o′ cs a strong together out = record {
-  answers = a;
-  no-later = λ h. near-run g (o .after) (o′ .after) strong cs together h .0;
-  spared = λ h. near-run g (o .after) (o′ .after) strong cs together h .1;
-  besides = λ h. let k = near-run g (o .after) (o′ .after) strong cs together h .2 in record { tables = k .tables; lists = k .lists; rows = near-rows g _ _ (k .banks) };
-  outside = out;
-}
-
--- `before`, then the differing call, then `after`: the histories as wholes
-pub run-joined : (b : Bridge) (before : List Call) (c : Call) (after : List Call) → runOf b (before ++ (c ∷ after)) ≡ runOf (takeOf (runOf b before) c .after) after
-unfolding runOf
-run-joined b [] c after = refl
-run-joined b (x ∷ before) c after = run-joined (takeOf b x .after) before c after
-
-pub larger-burst : (before : List Call) (c c′ : Call) (after : List Call) (l : Larger c c′)
-    → StartTogether (takeOf (runOf fresh before) c .after) (takeOf (runOf fresh before) c′ .after) after
-    → Promise (l .first .group) (takeOf (runOf fresh before) c) (takeOf (runOf fresh before) c′) after
-larger-burst before c c′ after l together =
-    let b = runOf fresh before in
-    let h = parted b c c′ l (reached-weak (l .first .group) before) in
-    let out = loose-run (l .first .group) (takeOf b c .after) (takeOf b c′ .after) (h .weak) after together .0 in
-    by-after (h .after) (h .answers) out
-  where
-    by-after : (takeOf (runOf fresh before) c .after ≡ takeOf (runOf fresh before) c′ .after) ⊎ Strong (l .first .group) (takeOf (runOf fresh before) c .after) (takeOf (runOf fresh before) c′ .after)
-        → takeOf (runOf fresh before) c .answer ≡ takeOf (runOf fresh before) c′ .answer → SameOutside (l .first .group) (takeOf (runOf fresh before) c .after) (takeOf (runOf fresh before) c′ .after) after
-        → Promise (l .first .group) (takeOf (runOf fresh before) c) (takeOf (runOf fresh before) c′) after
-    by-after (inl e) a out = promise-equal _ _ _ after a e out
-    by-after (inr strong) a out = promise-near _ _ _ after a strong together out

@@ -83,15 +83,18 @@ module _ (g : ℕ) (s s′ : Rows) (o : Near g s s′) where
       refused-both (Together g) _ _ SetUpAlready s s′ _ _ (ap (λ (u : List ℕ). isSet (word u 0)) (gate-row (r .id))) (stop _)
       (record { verdicts = refl; banks = remade (gateRow (r .id)) (omega arith) (omega arith) (λ u. rowOfGate u (isSet (r .state)) (r .ipv) (isSet (r .«invalid_receive_block»)) (isSet (r .«octets_block»)) (r .«base_time»)) })
 
+  group-set-both : (j : ℕ) → group s j .set ≡ group s′ j .set
+  group-set-both j = by-group (ℕ-discrete (groupRow j) (137 + g))
+    where
+      by-group : Dec (groupRow j ≡ 137 + g) → group s j .set ≡ group s′ j .set
+      by-group (yes e) = o (groupRow j) .group e (omega (arith, e)) .set
+      by-group (no n) = ap (λ (u : List ℕ). isSet (word u 0)) (o (groupRow j) .groups (omega arith) (omega arith) n)
+
   pub group-together : (r : GroupRecord) → Together g (groupOf s r) (groupOf s′ r)
   unfolding groupOf
   group-together r =
-      refused-both (Together g) _ _ SetUpAlready s s′ _ _ (set-both (ℕ-discrete (groupRow (r .id)) (137 + g))) (stop _)
+      refused-both (Together g) _ _ SetUpAlready s s′ _ _ (group-set-both (r .id)) (stop _)
       (record { verdicts = refl; banks = put (Pair near g) s s′ o (groupRow (r .id)) _ _ (group-at near z g (groupRow (r .id)) _ _ (omega arith) (omega arith) (λ _. refl) (λ _. record { set = refl; residence = refl; last = omega arith }) .pair) })
-    where
-      set-both : Dec (groupRow (r .id) ≡ 137 + g) → group s (r .id) .set ≡ group s′ (r .id) .set
-      set-both (yes e) = o (groupRow (r .id)) .group e (omega (arith, e)) .set
-      set-both (no n) = ap (λ (u : List ℕ). isSet (word u 0)) (o (groupRow (r .id)) .groups (omega arith) (omega arith) n)
 
   pub scheduler-together : (r : SchedulerRecord) → r .cbs .0 ≤ 1_000_000 → Together g (schedulerOf s r) (schedulerOf s′ r)
   unfolding schedulerOf
@@ -154,13 +157,6 @@ module _ (g : ℕ) (s s′ : Rows) (o : Near g s s′) where
 
   stray-both : (i : ℕ) → strayOf s i ≡ strayOf s′ i
   stray-both i = ap (λ (u : List ℕ). not (isSet (word u 0)) && ltb 0 (min (word u 6) 8)) (gate-row i)
-
-  group-set-both : (j : ℕ) → group s j .set ≡ group s′ j .set
-  group-set-both j = by-group (ℕ-discrete (groupRow j) (137 + g))
-    where
-      by-group : Dec (groupRow j ≡ 137 + g) → group s j .set ≡ group s′ j .set
-      by-group (yes e) = o (groupRow j) .group e (omega (arith, e)) .set
-      by-group (no n) = ap (λ (u : List ℕ). isSet (word u 0)) (o (groupRow j) .groups (omega arith) (omega arith) n)
 
   groupless-both : (i : ℕ) → grouplessOf s i ≡ grouplessOf s′ i
   groupless-both i =

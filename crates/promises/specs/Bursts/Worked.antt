@@ -1,7 +1,7 @@
 -- Why the promise on bursts asks that the first history drops nothing of the group with 8: two histories, computed from their octets.
 -- A burst of 1500 instead of 1000 admits the second frame, too, which the first history drops; the third frame is then eligible later: at 12,000 instead of 8000 ns.
 use Prim.Native.Nat.{ℕ}
-use mathlib.Core.List.{List, [], _∷_}
+use mathlib.Core.List.{List, [], _∷_, _++_}
 use mathlib.Core.Path.{_≡_, refl}
 use native.Mathlib.Omega.{arith}
 use Rattle.gate.specs.Meaning.{entriesFrom, cycleOf, foundOf, inForceOf, spentOf, limitedOf, passedOf, stepOf as gateStepOf}
@@ -15,8 +15,9 @@ use Rattle.verdict.specs.Numbers.{dropNumberOf}
 use Rattle.setup.specs.Setup.{refusedIf, gateOf, groupOf, schedulerOf, someOf, startOf}
 use Rattle.path.specs.Path.{passOf, sduPassed, gatePassed, discarded, scheduledBy, scheduledOf, meteredOf, gatedBy, gatedOf, policedOf, arrivalOf}
 use Rattle.stage.specs.Take.{Bridge, takenOf, readBy, takeOf}
-use Rattle.promises.specs.Runs.{Call, fresh}
-use Rattle.promises.specs.Bursts.Promise.{Larger}
+use Rattle.promises.specs.Runs.{Call, runOf, fresh}
+use Rattle.promises.specs.Bursts.Promise.{StartTogether, Larger, Promise}
+use Rattle.promises.specs.Bursts.Theorem.{larger-burst}
 
 -- what is seen of an answer: a setup record taken, a frame's eligibility time, the number of a drop or of a refusal
 pub data Seen : Type 0 where
@@ -35,37 +36,40 @@ unfoldable pub seenIn : Bridge → List Call → List Seen
 seenIn b [] = []
 seenIn b (c ∷ cs) = seenOf (takeOf b c .answer .verdict) ∷ seenIn (takeOf b c .after) cs
 
--- gate 0, open; group 0 with a residence of 6000 ns; scheduler 0 of it with a rate of 10^9 and a burst of two octets' number; filter 0 for every frame, max SDU 1000; start
+-- gate 0, open; group 0 with a residence of 6000 ns
+abbrev pub before : List Call
+before = (3 ∷ 0 ∷ 1 ∷ 8 ∷ 0 ∷ 0 ∷ 0 ∷ 0 ∷ 0 ∷ 0 ∷ 0 ∷ 0 ∷ 0 ∷ 0 ∷ []) ∷ (6 ∷ 0 ∷ 0 ∷ 0 ∷ 23 ∷ 112 ∷ []) ∷ []
+
+-- scheduler 0 of that group with a rate of 10^9, and a burst given by its last two octets
 abbrev pub scheduler : ℕ → ℕ → Call
 scheduler high low = 7 ∷ 0 ∷ 0 ∷ 0 ∷ 0 ∷ 0 ∷ 0 ∷ 59 ∷ 154 ∷ 202 ∷ 0 ∷ 0 ∷ 0 ∷ high ∷ low ∷ []
 
-abbrev pub setUp : ℕ → ℕ → List Call → List Call
-setUp high low calls =
-    (3 ∷ 0 ∷ 1 ∷ 8 ∷ 0 ∷ 0 ∷ 0 ∷ 0 ∷ 0 ∷ 0 ∷ 0 ∷ 0 ∷ 0 ∷ 0 ∷ [])
-    ∷ (6 ∷ 0 ∷ 0 ∷ 0 ∷ 23 ∷ 112 ∷ [])
-    ∷ scheduler high low
-    ∷ (2 ∷ 0 ∷ 1 ∷ 0 ∷ 0 ∷ 0 ∷ 0 ∷ 8 ∷ 0 ∷ 3 ∷ 232 ∷ 0 ∷ 255 ∷ 0 ∷ [])
-    ∷ (8 ∷ 8 ∷ [])
-    ∷ calls
+abbrev pub smaller : Call
+smaller = scheduler 3 232
 
--- three frames of 1000 octets, at 0, 0 and 6000 ns
-abbrev pub frames : List Call
-frames =
-    (9 ∷ 0 ∷ 0 ∷ 0 ∷ 0 ∷ 0 ∷ 0 ∷ 0 ∷ 0 ∷ 0 ∷ 0 ∷ 0 ∷ 0 ∷ 0 ∷ 0 ∷ 0 ∷ 3 ∷ 232 ∷ [])
+abbrev pub larger : Call
+larger = scheduler 5 220
+
+-- filter 0 for every frame, with a max SDU of 1000; start; three frames of 1000 octets, at 0, 0 and 6000 ns
+abbrev pub after : List Call
+after =
+    (2 ∷ 0 ∷ 1 ∷ 0 ∷ 0 ∷ 0 ∷ 0 ∷ 8 ∷ 0 ∷ 3 ∷ 232 ∷ 0 ∷ 255 ∷ 0 ∷ [])
+    ∷ (8 ∷ 8 ∷ [])
+    ∷ (9 ∷ 0 ∷ 0 ∷ 0 ∷ 0 ∷ 0 ∷ 0 ∷ 0 ∷ 0 ∷ 0 ∷ 0 ∷ 0 ∷ 0 ∷ 0 ∷ 0 ∷ 0 ∷ 3 ∷ 232 ∷ [])
     ∷ (9 ∷ 0 ∷ 0 ∷ 0 ∷ 0 ∷ 0 ∷ 0 ∷ 0 ∷ 0 ∷ 0 ∷ 0 ∷ 0 ∷ 0 ∷ 0 ∷ 0 ∷ 0 ∷ 3 ∷ 232 ∷ [])
     ∷ (9 ∷ 0 ∷ 0 ∷ 0 ∷ 0 ∷ 0 ∷ 0 ∷ 0 ∷ 23 ∷ 112 ∷ 0 ∷ 0 ∷ 0 ∷ 0 ∷ 0 ∷ 0 ∷ 3 ∷ 232 ∷ [])
     ∷ []
 
-pub first-drops : seenIn fresh (setUp 3 232 frames) ≡ taken ∷ taken ∷ taken ∷ taken ∷ taken ∷ eligible 0 ∷ drop 8 ∷ eligible 8000 ∷ []
+pub first-drops : seenIn fresh (before ++ (smaller ∷ after)) ≡ taken ∷ taken ∷ taken ∷ taken ∷ taken ∷ eligible 0 ∷ drop 8 ∷ eligible 8000 ∷ []
 unfolding seenIn fresh takeOf readBy takenOf readOf readAs withRow refusedIf gateOf groupOf schedulerOf someOf startOf rowInRangeOf isFilterOf missingOf tooSmallOf countsOf fitsOf answersOf searchOf passOf sduPassed gatePassed discarded scheduledBy scheduledOf meteredOf gatedBy gatedOf policedOf arrivalOf entriesFrom cycleOf foundOf inForceOf spentOf limitedOf passedOf gateStepOf schedulerStepOf schedulerInRangeOf _and_
 first-drops = refl
 
-pub second-admits : seenIn fresh (setUp 5 220 frames) ≡ taken ∷ taken ∷ taken ∷ taken ∷ taken ∷ eligible 0 ∷ eligible 4000 ∷ eligible 12_000 ∷ []
+pub second-admits : seenIn fresh (before ++ (larger ∷ after)) ≡ taken ∷ taken ∷ taken ∷ taken ∷ taken ∷ eligible 0 ∷ eligible 4000 ∷ eligible 12_000 ∷ []
 unfolding seenIn fresh takeOf readBy takenOf readOf readAs withRow refusedIf gateOf groupOf schedulerOf someOf startOf rowInRangeOf isFilterOf missingOf tooSmallOf countsOf fitsOf answersOf searchOf passOf sduPassed gatePassed discarded scheduledBy scheduledOf meteredOf gatedBy gatedOf policedOf arrivalOf entriesFrom cycleOf foundOf inForceOf spentOf limitedOf passedOf gateStepOf schedulerStepOf schedulerInRangeOf _and_
 second-admits = refl
 
 -- the two calls in which the histories differ are such as the promise speaks of
-pub calls-differ : Larger (scheduler 3 232) (scheduler 5 220)
+pub calls-differ : Larger smaller larger
 unfolding readOf readAs
 calls-differ = record {
   first = record { id = 0; group = 0; cir = record { 0 = 1_000_000_000 }; cbs = record { 0 = 1000 } };
@@ -79,3 +83,12 @@ calls-differ = record {
   rates = refl;
   bursts = omega arith;
 }
+
+-- and both histories take their start at the same call, so that the promise holds of them: its condition is what fails
+starts-together : StartTogether (takeOf (runOf fresh before) smaller .after) (takeOf (runOf fresh before) larger .after) after
+unfolding runOf fresh takeOf readBy takenOf readOf readAs withRow refusedIf gateOf groupOf schedulerOf someOf startOf rowInRangeOf isFilterOf missingOf tooSmallOf countsOf fitsOf answersOf searchOf passOf sduPassed gatePassed discarded scheduledBy scheduledOf meteredOf gatedBy gatedOf policedOf arrivalOf entriesFrom cycleOf foundOf inForceOf spentOf limitedOf passedOf gateStepOf schedulerStepOf schedulerInRangeOf _and_
+starts-together = (refl, (refl, (refl, (refl, (refl, tt)))))
+
+pub promised : Promise 0 (takeOf (runOf fresh before) smaller) (takeOf (runOf fresh before) larger) after
+unfolding calls-differ
+promised = larger-burst before smaller larger after calls-differ starts-together
