@@ -1,38 +1,16 @@
--- What lifts a flag, and what is to be shown of one call so that it lifts none.
-use Prim.Native.Nat.{ℕ, _<_}
-use mathlib.Core.Bool.{Bool, true, false, cond, _&&_, _||_}
+-- What lifts a flag: a clear of that flag (by document 01's number) and id that is taken. And that no event of a history does.
+use Prim.Native.Nat.{ℕ}
+use mathlib.Core.Bool.{Bool, true, false, _&&_}
 use mathlib.Core.List.{List, [], _∷_}
-use mathlib.Core.Logic.{_≢_}
-use mathlib.Core.Path.{_≡_, refl, sym, ap, _∙_}
-use native.Mathlib.Omega.{arith}
-use native.Mathlib.Decide.{ℕ-discrete}
-use borrow.Author.Tests.{leb-true, eqb-true, eq-eqb}
-use lib.Dec.{eqb, leb}
-use mir.Val.{boolByte}
+use mathlib.Core.Path.{_≡_}
+use lib.Dec.{eqb}
 use Rattle.record.specs.declared.Record.{Record}
 use Rattle.record.specs.declared.Record.the-variants as kind
-use Rattle.record.specs.declared.ArrivalRecord.{ArrivalRecord}
-use Rattle.record.specs.declared.ClearRecord.{ClearRecord}
-use Rattle.record.specs.declared.Refusal.the-variants.{NotSetUp}
 use Rattle.record.specs.declared.Reading.{Reading}
 use Rattle.record.specs.declared.Reading.the-variants as reading
-use Rattle.record.specs.Ranges.{read-ranges}
-use Rattle.bank.specs.Rows.{Rows, withRow, row-same, row-other}
-use Rattle.bank.specs.Views.{word, isSet}
-use Rattle.bank.specs.Laws.{isSet-back}
-use Rattle.filter.specs.declared.Filter.{Filter}
-use Rattle.filter.specs.Filter.{rowOf}
 use Rattle.verdict.specs.declared.Verdict.{Verdict}
 use Rattle.verdict.specs.declared.Verdict.the-variants.{Refused, Taken, Passed, Dropped}
-use Rattle.verdict.specs.Told.{Told, told}
-use Rattle.setup.specs.Setup.{oversizeOf, invalidReceiveOf, octetsOf, redOf, clearOf}
-use Rattle.stage.specs.Take.{Bridge, Took, takenOf, startedOf, takeOf}
-use Rattle.promises.specs.Runs.{Call, Event, readingOf, eventOf}
-use Rattle.promises.specs.Refusals.{answered-verdict}
-use Rattle.promises.specs.Untouched.{Setup, Sort, setup, arrival, clear, sort-of}
-use Rattle.promises.specs.Ways.{Arrived, arrived-way, Called, unread, read, called-way}
-
--- ---- what lifts a flag: a clear of that flag (by document 01's number) and id that is taken
+use Rattle.promises.specs.Runs.{Event}
 
 abbrev pub takenIn : Verdict → Bool
 takenIn (Refused why) = false
@@ -63,87 +41,3 @@ clears flag i e = clearBy flag i (e .reading) (e .verdict)
 abbrev pub Never : (Event → Bool) → List Event → Type 0
 Never test [] = Unit {0}
 Never test (e ∷ es) = (test e ≡ false) × Never test es
-
--- ---- a flag is a word of a row
-
-abbrev pub stands : ℕ → Rows → ℕ → Type 0
-stands k s q = isSet (word (s q) k) ≡ true
-
--- a store lifts no flag if it doesn't in its own row
-pub flag-written : (k : ℕ) (s : Rows) (q r : ℕ) (vs : List ℕ) → (stands k s r → isSet (word vs k) ≡ true) → stands k s q → stands k (withRow s r vs) q
-flag-written k s q r vs own h = at-row (ℕ-discrete q r)
-  where
-    at-row : Dec (q ≡ r) → stands k (withRow s r vs) q
-    at-row (yes e) = ap (λ (p : ℕ). isSet (word (withRow s r vs p) k)) e ∙ ap (λ (row : List ℕ). isSet (word row k)) (row-same s r vs) ∙ own (ap (λ (p : ℕ). isSet (word (s p) k)) (sym e) ∙ h)
-    at-row (no n) = ap (λ (row : List ℕ). isSet (word row k)) (row-other s r vs q n) ∙ h
-
-pub kept-row : (k : ℕ) (s t : Rows) (q : ℕ) → t q ≡ s q → stands k s q → stands k t q
-kept-row k s t q e h = ap (λ (row : List ℕ). isSet (word row k)) e ∙ h
-
--- a store into another row
-pub away : (k : ℕ) (s : Rows) (q r : ℕ) (vs : List ℕ) → q ≢ r → stands k s q → stands k (withRow s r vs) q
-away k s q r vs n h = kept-row k s (withRow s r vs) q (row-other s r vs q n) h
-
-pub raised : (b : Bool) → b ≡ true → isSet (boolByte b) ≡ true
-raised b e = isSet-back b ∙ e
-
-pub or-raised : (a b : Bool) → a ≡ true → (a || b) ≡ true
-or-raised true b e = refl
-or-raised false b e = cc
-
--- ---- a clear
-
-cond-so : (P : Told → Type 0) (b : Bool) (x y : Told) → (b ≡ true → P x) → P y → P (cond b x y)
-cond-so P true x y f h = f refl
-cond-so P false x y f h = h
-
-pub clear-split : (P : Told → Type 0) (s : Rows) (r : ClearRecord) (row : Filter) → (r .flag ≡ 1 → P (oversizeOf s (r .id) row)) → (r .flag ≡ 2 → P (invalidReceiveOf s (r .id))) → (r .flag ≡ 3 → P (octetsOf s (r .id)))
-    → (r .flag ≡ 4 → P (redOf s (r .id))) → P (told s (Refused NotSetUp)) → P (clearOf s r row)
-unfolding clearOf
-clear-split P s r row f₁ f₂ f₃ f₄ none =
-    cond-so P (eqb (r .flag) 1) _ _ (λ e. f₁ (eqb-true _ _ e))
-    (cond-so P (eqb (r .flag) 2) _ _ (λ e. f₂ (eqb-true _ _ e))
-    (cond-so P (eqb (r .flag) 3) _ _ (λ e. f₃ (eqb-true _ _ e))
-    (cond-so P (eqb (r .flag) 4) _ _ (λ e. f₄ (eqb-true _ _ e)) none)))
-
--- the ids that a clear's record has
-clear-ids : (flag id : ℕ) → (leb id 15 || eqb flag 1 && leb id 63) ≡ true → (id < 64) × (flag ≢ 1 → id < 16)
-clear-ids flag id e = by-test (leb id 15) refl (eqb flag 1) refl e
-  where
-    by-test : (t : Bool) → leb id 15 ≡ t → (u : Bool) → eqb flag 1 ≡ u → (t || u && leb id 63) ≡ true → (id < 64) × (flag ≢ 1 → id < 16)
-    by-test true p u q e′ = let h = leb-true id 15 p in (omega arith, λ n. omega arith)
-    by-test false p true q e′ = let h = leb-true id 63 e′ in (omega arith, λ n. absurd (n (eqb-true flag 1 q)))
-    by-test false p false q e′ = absurd (let z : _≡_ {A = ℕ} 0 1 = cc in omega arith)
-
--- what is known of a clear that isn't one of this flag and id
-abbrev pub Spares : ℕ → ℕ → ClearRecord → Verdict → Type 0
-Spares flag i r v = ((eqb (r .flag) flag && eqb (r .id) i) && takenIn v) ≡ false
-
-pub other-id : (flag i : ℕ) (r : ClearRecord) → r .flag ≡ flag → Spares flag i r Taken → r .id ≢ i
-other-id flag i r e h q = by-test (eqb (r .flag) flag) (eqb (r .id) i) (eq-eqb _ _ e) (eq-eqb _ _ q) h
-  where
-    by-test : (a b : Bool) → a ≡ true → b ≡ true → ((a && b) && true) ≡ false → ⊥
-    by-test true true p q e′ = let z : _≡_ {A = ℕ} 0 1 = cc in omega arith
-    by-test true false p q e′ = let z : _≡_ {A = ℕ} 0 1 = cc in omega arith
-    by-test false b p q e′ = let z : _≡_ {A = ℕ} 0 1 = cc in omega arith
-
--- ---- one call, for any flag: what is to be shown of a setup record, of an arrival and of a clear
-
-module _ (b : Bridge) (c : Call) (S : Rows → Type 0) (flag i : ℕ) (now : S (b .bank)) where
-  module _ (setups : (r : Record) (used : ℕ) → Setup r → S (takenOf b c r used .after .bank))
-      (arrivals : (a : ArrivalRecord) (f : ℕ) (row : Filter) (t : Told) → Arrived (b .bank) (b .lists) a f row t → S (t .bank))
-      (cleared : (r : ClearRecord) (row : Filter) → r .id < 64 → (r .flag ≢ 1 → r .id < 16) → Spares flag i r (clearOf (b .bank) r row .verdict) → S (clearOf (b .bank) r row .bank)) where
-    sorted : (r : Record) (used : ℕ) → readingOf b c ≡ reading.Taken r used → Sort r → clearBy flag i (reading.Taken r used) (takenOf b c r used .answer .verdict) ≡ false → S (takenOf b c r used .after .bank)
-    unfolding takenOf
-    sorted r used e (setup h) k = setups r used h
-    sorted r used e (arrival a) k = arrivals a _ _ _ (arrived-way (b .bank) (b .lists) a _ _)
-    sorted r used e (clear x) k =
-        let ids = clear-ids (x .flag) (x .id) (read-ranges c (startedOf (b .bank)) (kind.Clear x) used e .0) in
-        cleared x (rowOf (b .table) (x .id)) (ids .0) (ids .1) (ap (λ (v : Verdict). (eqb (x .flag) flag && eqb (x .id) i) && takenIn v) (sym (answered-verdict used (clearOf (b .bank) x (rowOf (b .table) (x .id)) .verdict))) ∙ k)
-
-    called : (o : Took) → Called b c o → clearBy flag i (readingOf b c) (o .answer .verdict) ≡ false → S (o .after .bank)
-    called o (unread why) k = now
-    called o (read r used full e) k = sorted r used e (sort-of r) (ap (λ (rd : Reading). clearBy flag i rd (takenOf b c r used .answer .verdict)) (sym e) ∙ k)
-
-    pub one-call : clears flag i (eventOf b c) ≡ false → S (takeOf b c .after .bank)
-    one-call = called (takeOf b c) (called-way b c)

@@ -10,6 +10,7 @@ use lib.Dec.{eqb}
 use Rattle.record.specs.declared.Record.{Record}
 use Rattle.record.specs.declared.Record.the-variants as kind
 use Rattle.record.specs.declared.ArrivalRecord.{ArrivalRecord}
+use Rattle.record.specs.declared.Refusal.{Refusal}
 use Rattle.record.specs.declared.Refusal.the-variants.{SetUpAlready}
 use Rattle.record.specs.declared.Reading.{Reading}
 use Rattle.record.specs.declared.Reading.the-variants as reading
@@ -150,7 +151,7 @@ setup-portless (kind.Clear r) h = absurd h
 unmoved : (m : Bool) (v : Verdict) (n n′ : ℕ) → m ≡ false → n′ ≡ n → n′ ≡ counted (discardedIn m v) n
 unmoved m v n n′ e h = h ∙ ap (λ (u : Bool). counted (discardedIn u v) n) (sym e)
 
-refused-none : (m : Bool) (why : _) → discardedIn m (Refused why) ≡ false
+refused-none : (m : Bool) (why : Refusal) → discardedIn m (Refused why) ≡ false
 refused-none m why = no-discard m (Refused why) refl
 
 module _ (b : Bridge) (c : Call) (p : ℕ) (small : p < 8) where

@@ -23,7 +23,8 @@ use Rattle.stage.specs.Take.{Bridge, takenOf, takeOf}
 use Rattle.promises.specs.Runs.{Call, eventOf}
 use Rattle.promises.specs.Untouched.{Setup, setup-row, sdu-passed-row, sdu-failed-row, gate-passed-row, gate-failed-row, metered-row}
 use Rattle.promises.specs.Ways.{Metered, gated, Gated, opened, blocked, closed, exceeded, Policed, stopped, oversize, fits, ticked, Arrived, back, unmatched, matched}
-use Rattle.promises.specs.Clears.{clears, stands, flag-written, kept-row, away, raised, or-raised, clear-split, Spares, other-id, one-call}
+use Rattle.promises.specs.Clears.{clears}
+use Rattle.promises.specs.Standing.{stands, flag-written, kept-row, away, raised, or-raised, clear-split, Spares, other-id, one-call}
 
 -- ---- a frame, for either flag: word k of the gate's state
 

@@ -6,7 +6,7 @@ use mathlib.Core.Logic.{_≢_, _↔_, _⊎_, inl, inr, ⊎-elim}
 use mathlib.Core.Option.{Option, none, some}
 use mathlib.Core.Path.{_≡_, refl, sym, ap, _∙_}
 use native.Mathlib.Omega.{arith}
-use borrow.Author.Tests.{eqb-true, eq-eqb}
+use borrow.Author.Tests.{eqb-true, eq-eqb, ne-eqb}
 use lib.Dec.{eqb, leb, ltb}
 use lib.ListN.{length, getD}
 use Rattle.record.specs.declared.Record.{Record}
@@ -38,6 +38,7 @@ use Rattle.setup.specs.Setup.{Listed, refusedIf, portOf, gateOf, entryOf, meter
 use Rattle.path.specs.Path.{arrivalOf}
 use Rattle.stage.specs.Take.{Bridge, Took, answered, refusedOf, firstRow, takenOf, readBy, startedOf, takeOf}
 use Rattle.promises.specs.Runs.{Call}
+use Rattle.promises.specs.Bools.{both}
 use Rattle.promises.specs.Ways.{Arrived, back, unmatched, matched, arrived-way}
 use Rattle.promises.specs.Refusals.{policed-framed, framed-number, answered-verdict}
 use Rattle.promises.specs.Tries.{refusalIn, refusalOf, Try, try, firstOf, StandsFirst, clearableOf, recordTries, emptyOf, unknownOf, bodyTries, kindTries, octetTries, triesOf}
@@ -175,10 +176,6 @@ alone n k [] = false
 alone n zero (t ∷ ts) = eqb (t .number) n && absent n ts
 alone n (suc k) (t ∷ ts) = not (eqb (t .number) n) && alone n k ts
 
-both : (a b : Bool) → (a && b) ≡ true → (a ≡ true) × (b ≡ true)
-both true b e = (refl, e)
-both false b e = absurd (let z : _≡_ {A = ℕ} 0 1 = cc in omega arith)
-
 differs : (m n : ℕ) → not (eqb m n) ≡ true → m ≢ n
 differs m n e q = let h = eq-eqb m n q in let z : _≡_ {A = ℕ} 0 1 = never (eqb m n) h e in omega arith
   where
@@ -248,6 +245,10 @@ module _ (b : Bridge) (c : Call) where
 
   pub refused-10 : (refusalOf b c ≡ 10) ↔ StandsFirst 11 (triesOf b c)
   refused-10 = given 10 11 refl
+
+-- in plain words: "the lent filter table hasn't exactly 64 places"
+pub refused-11-length : (b : Bridge) (c : Call) → (refusalOf b c ≡ 11) ↔ (length (b .table) ≢ 64)
+refused-11-length b c = (λ e. differs (length (b .table)) 64 (refused-11 b c .0 e), λ n. refused-11 b c .1 (ap not (ne-eqb (length (b .table)) 64 n)))
 
 -- 1 stands in two rows: no octet, and (after 2) the body cut short
 one-of-two : (t₀ t₁ t₂ t₃ : Bool) (ts : List Try) → absent 1 ts ≡ true → firstOf (try 11 t₀ ∷ try 1 t₁ ∷ try 2 t₂ ∷ try 1 t₃ ∷ ts) ≡ 1

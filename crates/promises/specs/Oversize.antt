@@ -22,7 +22,8 @@ use Rattle.stage.specs.Take.{Bridge, takenOf, takeOf}
 use Rattle.promises.specs.Runs.{Call, eventOf}
 use Rattle.promises.specs.Untouched.{setup-row, scheduled-row}
 use Rattle.promises.specs.Ways.{Scheduled, metered, Metered, unmetered, coloured, yellow, red, gated, Gated, opened, blocked, closed, exceeded, Policed, stopped, oversize, fits, ticked, Arrived, back, unmatched, matched}
-use Rattle.promises.specs.Clears.{clears, stands, flag-written, kept-row, away, raised, or-raised, clear-split, Spares, other-id, one-call}
+use Rattle.promises.specs.Clears.{clears}
+use Rattle.promises.specs.Standing.{stands, flag-written, kept-row, away, raised, or-raised, clear-split, Spares, other-id, one-call}
 
 module _ (i : ℕ) where
   abbrev Oversize : Rows → Type 0

@@ -1,6 +1,6 @@
 -- In every history from fresh, a red flag that stands is that of a meter that is set up.
 use Prim.Native.Nat.{ℕ, _<_}
-use mathlib.Core.Bool.{Bool, true, false, not, _&&_}
+use mathlib.Core.Bool.{Bool, true, false, not}
 use mathlib.Core.List.{List, [], _∷_}
 use mathlib.Core.Logic.{_≢_}
 use mathlib.Core.Path.{_≡_, refl, sym, ap, _∙_}
@@ -31,8 +31,9 @@ use Rattle.setup.specs.Laws.{port-other, gate-other, group-other, scheduler-oth
 use Rattle.path.specs.Path.{gatePassed, gateFailed, sduPassed, sduFailed, redCounted}
 use Rattle.stage.specs.Take.{Bridge, Took, firstRow, takenOf, takeOf}
 use Rattle.promises.specs.Runs.{Call, fresh, runOf}
-use Rattle.promises.specs.Clears.{stands, kept-row, away}
+use Rattle.promises.specs.Standing.{stands, kept-row, away}
 use Rattle.promises.specs.Untouched.{Setup, Sort, setup, arrival, clear, sort-of, entry-row, place-row, sdu-passed-row, sdu-failed-row, gate-passed-row, gate-failed-row, red-counted-row, scheduled-row}
+use Rattle.promises.specs.Bools.{both}
 use Rattle.promises.specs.Ways.{Scheduled, metered, Metered, unmetered, coloured, yellow, red, gated, Gated, opened, blocked, closed, exceeded, Policed, stopped, oversize, fits, ticked, Arrived, back, unmatched, matched, arrived-way, Called, unread, read, called-way}
 
 -- every red flag that stands is that of a meter that is set up
@@ -109,16 +110,12 @@ module _ (a : ArrivalRecord) (f : ℕ) (row : Filter) where
   arrived-kept s lists t k named (unmatched e n p) = apart s 0 _ (λ i. omega arith) (λ i. omega arith) k
   arrived-kept s lists t k named (matched e l w) = policed-kept _ lists t w (ticked-kept s (k, named l))
 
-and-right : (a b : Bool) → (a && b) ≡ true → b ≡ true
-and-right true b e = e
-and-right false b e = absurd (let z : _≡_ {A = ℕ} 0 1 = cc in omega arith)
-
 -- the row that a frame uses counts, so that its meter is set up
 named-is-set : (s : Rows) (table : List Filter) (q : Question) → q .asks ≡ Fits → q .to ≡ 64 → (hit : ℕ) → hit ≡ searchOf s q table → hit < 64 → eqb (rowOf table hit .meter) 255 ≡ false → meterIsSet s (rowOf table hit .meter) ≡ true
 named-is-set s table q asks to hit eh l n =
     let row : Filter = rowOf table hit in
     let answers : answersOf s q row ≡ true = ap (λ (k : ℕ). answersOf s q (rowOf table k)) eh ∙ search-answers s q table (omega (arith, l, eh, to)) in
-    let counts : countsOf s row ≡ true = and-right (fitsOf (q .handle) (q .priority) row) (countsOf s row) (sym (answers-asked s row q Fits asks) ∙ answers) in
+    let counts : countsOf s row ≡ true = both (fitsOf (q .handle) (q .priority) row) (countsOf s row) (sym (answers-asked s row q Fits asks) ∙ answers) .1 in
     counts-meter s row counts (eqb-false (row .meter) 255 n)
 
 -- ---- a meter's record, and the other setup records

@@ -8,12 +8,14 @@ use mathlib.Core.Path.{_≡_, refl, sym, ap, _∙_}
 use native.Mathlib.Omega.{arith}
 use Rattle.record.specs.declared.Record.{Record}
 use Rattle.record.specs.declared.Record.the-variants as kind
+use Rattle.record.specs.declared.ArrivalRecord.{ArrivalRecord}
 use Rattle.record.specs.declared.Refusal.{Refusal}
 use Rattle.record.specs.declared.Refusal.the-variants.{SetUpAlready, Missing}
 use Rattle.record.specs.declared.Reading.the-variants as reading
 use Rattle.record.specs.Read.{kindIn, lengthOf}
 use Rattle.record.specs.Laws.{read-says, record-kind}
 use Rattle.bank.specs.Rows.{Rows}
+use Rattle.filter.specs.declared.Filter.{Filter}
 use Rattle.filter.specs.declared.Asks.the-variants as asks
 use Rattle.filter.specs.Filter.{isFilterOf, rowOf}
 use Rattle.verdict.specs.declared.Drop.{Drop}
@@ -36,24 +38,24 @@ pub data Framed : Verdict → Type 0 where
   passed : (p : Pass) → Framed (Passed p)
   dropped : (d : Drop) → Framed (Dropped d)
 
-scheduled-framed : {s : Rows} {a : _} {t : Told} → Scheduled s a t → Framed (t .verdict)
+scheduled-framed : {s : Rows} {a : ArrivalRecord} {t : Told} → Scheduled s a t → Framed (t .verdict)
 scheduled-framed (unscheduled p) = passed p
 scheduled-framed (admitted i j at x p) = passed p
 scheduled-framed late = dropped _
 
-metered-framed : {s : Rows} {a : _} {f : ℕ} {row : _} {t : Told} → Metered s a f row t → Framed (t .verdict)
+metered-framed : {s : Rows} {a : ArrivalRecord} {f : ℕ} {row : Filter} {t : Told} → Metered s a f row t → Framed (t .verdict)
 metered-framed (unmetered w) = scheduled-framed w
 metered-framed (coloured e w) = scheduled-framed w
 metered-framed (yellow e) = dropped _
 metered-framed (red e) = dropped _
 
-gated-framed : {s : Rows} {lists : List ℕ} {a : _} {f : ℕ} {row : _} {t : Told} → Gated s lists a f row t → Framed (t .verdict)
+gated-framed : {s : Rows} {lists : List ℕ} {a : ArrivalRecord} {f : ℕ} {row : Filter} {t : Told} → Gated s lists a f row t → Framed (t .verdict)
 gated-framed (opened w) = metered-framed w
 gated-framed blocked = dropped _
 gated-framed closed = dropped _
 gated-framed exceeded = dropped _
 
-pub policed-framed : {s : Rows} {lists : List ℕ} {a : _} {f : ℕ} {row : _} {t : Told} → Policed s lists a f row t → Framed (t .verdict)
+pub policed-framed : {s : Rows} {lists : List ℕ} {a : ArrivalRecord} {f : ℕ} {row : Filter} {t : Told} → Policed s lists a f row t → Framed (t .verdict)
 policed-framed stopped = dropped _
 policed-framed (oversize set) = dropped _
 policed-framed (fits w) = gated-framed w
@@ -74,7 +76,7 @@ answered-verdict used Taken = refl
 answered-verdict used (Passed p) = refl
 answered-verdict used (Dropped d) = refl
 
-arrived-keeps : {s : Rows} {lists : List ℕ} {a : _} {f : ℕ} {row : _} {t : Told} → Arrived s lists a f row t → Keeps s t
+arrived-keeps : {s : Rows} {lists : List ℕ} {a : ArrivalRecord} {f : ℕ} {row : Filter} {t : Told} → Arrived s lists a f row t → Keeps s t
 arrived-keeps (back e) why h = refl
 arrived-keeps (unmatched e n p) why h = absurd (never-refused _ why (passed p) h)
 arrived-keeps (matched e l w) why h = absurd (never-refused _ why (policed-framed w) h)
@@ -122,21 +124,21 @@ refused-leaves-no-trace b c cs why e = ap (λ (x : Bridge). runOf x cs) (refused
 
 -- ---- a record that is taken uses its whole length
 
-answered-used : (used : ℕ) (v : Verdict) → ((why : Refusal) → v ≢ Refused why) → answered used v .used ≡ used
+abbrev pub NoRefusal : Verdict → Type 0
+NoRefusal v = (why : Refusal) → v ≢ Refused why
+
+answered-used : (used : ℕ) (v : Verdict) → NoRefusal v → answered used v .used ≡ used
 answered-used used (Refused why) h = absurd (h why refl)
 answered-used used Taken h = refl
 answered-used used (Passed p) h = refl
 answered-used used (Dropped d) h = refl
 
-placed-used : (full : Bool) (b : Bridge) (why′ : Refusal) (t : Took) (used : ℕ) → t .answer .used ≡ used → ((why : Refusal) → cond full (refusedOf b why′) t .answer .verdict ≢ Refused why)
+placed-used : (full : Bool) (b : Bridge) (why′ : Refusal) (t : Took) (used : ℕ) → t .answer .used ≡ used → NoRefusal (cond full (refusedOf b why′) t .answer .verdict)
     → cond full (refusedOf b why′) t .answer .used ≡ used
 placed-used true b why′ t used e h = absurd (h why′ refl)
 placed-used false b why′ t used e h = e
 
 module _ (b : Bridge) (c : Call) where
-  abbrev NoRefusal : Verdict → Type 0
-  NoRefusal v = (why : Refusal) → v ≢ Refused why
-
   given-back : (used : ℕ) (v : Verdict) → NoRefusal (answered used v .verdict) → answered used v .used ≡ used
   given-back used v h = answered-used used v (λ why e. h why (answered-verdict used v ∙ e))
 

@@ -6,7 +6,7 @@ use mathlib.Core.List.{List}
 use mathlib.Core.Path.{_≡_, refl, sym, ap, _∙_}
 use native.Mathlib.Omega.{arith}
 use native.Mathlib.Decide.{ℕ-discrete}
-use borrow.Author.Tests.{ltb-true, ltb-false, eqb-true}
+use borrow.Author.Tests.{not-true, ltb-true, ltb-false, eqb-true}
 use lib.Dec.{eqb, ltb}
 use lib.ListN.{length, set, length-set, List·getD-eq-default}
 use lib.Seq.{getD-set-same, getD-set-other, set-out, set-set, set-comm}
@@ -75,10 +75,6 @@ no-count : (s : Rows) → countsOf s noRow ≡ false
 unfolding countsOf isFilterOf
 no-count s = refl
 
-not-false : (t : Bool) → not t ≡ true → t ≡ false
-not-false true e = sym e
-not-false false e = refl
-
 -- ---- a call
 
 module _ (b : Bridge) (i : ℕ) where
@@ -134,10 +130,10 @@ read-in-turn c started r used e = ap (λ (n : ℕ). inTurnOf n started) (read-ki
 
 unless : (t x y : Bool) → t ≡ false → not (cond t x y) ≡ true → y ≡ false
 unless true x y p e = absurd (let z : _≡_ {A = ℕ} 0 1 = cc in omega arith)
-unless false x y p e = not-false y e
+unless false x y p e = not-true y e
 
 once : (t x y : Bool) → t ≡ true → not (cond t x y) ≡ true → x ≡ false
-once true x y p e = not-false x e
+once true x y p e = not-true x e
 once false x y p e = absurd (let z : _≡_ {A = ℕ} 0 1 = cc in omega arith)
 
 module _ (b : Bridge) (c : Call) (i : ℕ) (spoiled : spoiledAt b i ≡ true) where
@@ -170,13 +166,13 @@ module _ (b : Bridge) (c : Call) (i : ℕ) (spoiled : spoiledAt b i ≡ true) wh
   record-spoiled (kind.Port r) used full e = same-table b i _ _ _
   record-spoiled (kind.Filter r) used full e =
       placed b i (isFilterOf (rowOf (b .table) (r .id))) (isFilterOf (rowOf (set (b .table) i noRow) (r .id))) (r .id) used (filterOf r)
-      (test-emptied (b .table) i isFilterOf no-filter (before-start (not-false started (read-in-turn c started (kind.Filter r) used e))) (r .id))
+      (test-emptied (b .table) i isFilterOf no-filter (before-start (not-true started (read-in-turn c started (kind.Filter r) used e))) (r .id))
   record-spoiled (kind.Gate r) used full e = same-table b i _ _ _
   record-spoiled (kind.GateEntry r) used full e = same-table b i _ _ _
   record-spoiled (kind.Meter r) used full e = same-table b i _ _ _
   record-spoiled (kind.Group r) used full e = same-table b i _ _ _
   record-spoiled (kind.Scheduler r) used full e = same-table b i _ _ _
-  record-spoiled (kind.Start r) used full e = same-told b i used _ _ (start-spoiled r (not-false started (read-in-turn c started (kind.Start r) used e)))
+  record-spoiled (kind.Start r) used full e = same-told b i used _ _ (start-spoiled r (not-true started (read-in-turn c started (kind.Start r) used e)))
   record-spoiled (kind.Arrival a) used full e = same-told b i used _ _ (arrival-spoiled a full (read-in-turn c started (kind.Arrival a) used e) _ _ refl refl)
   record-spoiled (kind.Clear r) used full e =
       same-told b i used _ _

@@ -12,6 +12,7 @@ use Rattle.record.specs.declared.Record.{Record}
 use Rattle.record.specs.declared.Record.the-variants as kind
 use Rattle.record.specs.declared.ArrivalRecord.{ArrivalRecord}
 use Rattle.record.specs.declared.ClearRecord.{ClearRecord}
+use Rattle.record.specs.declared.Refusal.{Refusal}
 use Rattle.record.specs.declared.Refusal.the-variants.{NotSetUp}
 use Rattle.bank.specs.Rows.{Rows, withRow, row-other, row-kept}
 use Rattle.bank.specs.declared.Counters.{Counters}
@@ -182,7 +183,7 @@ unmatched-tally m v c c′ e e′ =
     subst (λ (n : Bool). Tallied n v c c′) (sym e)
     (subst (Tallied false v c) (sym e′) (record { by-matching = refl; by-passing-sdu = refl; by-not-passing-sdu = refl; by-passing = refl; by-not-passing = refl; by-red = refl }))
 
-refused-tally : (m : Bool) (why : _) (c : Counters) → Tallied m (Refused why) c c
+refused-tally : (m : Bool) (why : Refusal) (c : Counters) → Tallied m (Refused why) c c
 refused-tally true why c = record { by-matching = refl; by-passing-sdu = refl; by-not-passing-sdu = refl; by-passing = refl; by-not-passing = refl; by-red = refl }
 refused-tally false why c = record { by-matching = refl; by-passing-sdu = refl; by-not-passing-sdu = refl; by-passing = refl; by-not-passing = refl; by-red = refl }
 
