@@ -1,4 +1,4 @@
-/* The worked program of document 01 through the C library: its setup, its nine arrivals and its clear, then the counters, and two refusals. */
+/* The worked program of document 01 through the C library: its setup, its nine frames and its clear; a tenth frame; the counters; two refusals. */
 #include "transomrib.h"
 #include <inttypes.h>
 #include <stdio.h>
@@ -34,6 +34,8 @@ static void records(void) {
     put(10, 1), put(1, 1), put(0, 1);
     arrival(2000, 7, 3, 500);
     arrival(2000, 9, 0, 500);
+    /* the bucket is full again by now */
+    arrival(20000, 7, 3, 100);
 }
 
 int main(void) {
