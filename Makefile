@@ -11,6 +11,7 @@ SECOND = target/second/release
 export CARGO_TARGET_DIR = $(CURDIR)/target/second
 
 run:
+	@echo 'proving and building ingress: some minutes the first time' >&2
 	@rt check ingress >/dev/null
 	@target/bin/ingress <crates/ingress/stdin
 
