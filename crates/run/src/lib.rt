@@ -64,7 +64,7 @@ pub fn again(p: Progress) -> Progress
 }
 
 // One `stage::take` for each record, from octet `from.at` of the input on.
-// Ruled out: a record skipped; a line of another record's answer.
+// Ruled out: a record skipped; a record taken after a refusal.
 pub fn run(
     table: &mut [Filter],
     bank: &mut Words,

@@ -2,7 +2,7 @@
 use Prim.Native.Nat.{ℕ, zero, suc, _+_, _/_, _%_, _<_, _≤_}
 use mathlib.Core.Path.{_≡_, refl, sym, ap, _∙_}
 use mathlib.Core.Bool.{Bool, true, false, cond}
-use mathlib.Core.List.{List, [], _∷_, _++_}
+use mathlib.Core.List.{List, [], _∷_, _++_, append-assoc}
 use native.Mathlib.Omega.{arith}
 use native.Mathlib.Numerals.{add-one}
 use lib.Dec.{ltb}
@@ -10,7 +10,7 @@ use lib.ListN.{length, getD, set, drop}
 use lib.Seq.{drop-cons}
 use borrow.Author.Tests.{ltb-false, lt-ltb, le-ltb, eq-eqb, ne-eqb}
 use Rattle.text.specs.Page.{Page, page, putOf, written}
-use Rattle.text.specs.Lines.{digitsIn, digitsOf, newline, itemOf, upTo}
+use Rattle.text.specs.Lines.{digitsIn, digitsOf, pairOf, newline, itemOf, upTo}
 
 -- ---- pages
 
@@ -77,6 +77,19 @@ module _ (n : ℕ) where
   digits-more l =
       by-size ∙ ap (λ (z : Bool). cond z ((n % 10 + 48) ∷ []) (digitsIn n (n / 10) ++ ((n % 10 + 48) ∷ []))) (le-ltb n 10 l)
       ∙ ap (λ (zs : List ℕ). zs ++ ((n % 10 + 48) ∷ [])) (digits-enough n (n / 10 + 1) (n / 10) (omega (arith, l)) (omega arith))
+
+-- two digits at a time
+module _ (n : ℕ) where
+  pub digits-two : 10 ≤ n → n < 100 → digitsOf n ≡ pairOf n
+  digits-two l h = digits-more n l ∙ ap (λ (zs : List ℕ). zs ++ ((n % 10 + 48) ∷ [])) (digits-one (n / 10) (omega (arith, h)))
+
+  pub digits-pair : 100 ≤ n → digitsOf n ≡ digitsOf (n / 100) ++ pairOf n
+  digits-pair l =
+      digits-more n (omega (arith, l)) ∙ ap (λ (zs : List ℕ). zs ++ ((n % 10 + 48) ∷ [])) (digits-more (n / 10) (omega (arith, l)))
+      ∙ append-assoc (digitsOf (n / 10 / 10)) ((n / 10 % 10 + 48) ∷ []) ((n % 10 + 48) ∷ []) ∙ ap (λ (m : ℕ). digitsOf m ++ pairOf n) (hundredth n)
+    where
+      hundredth : (n : ℕ) → n / 10 / 10 ≡ n / 100
+      hundredth n = omega arith
 
 -- ---- the report
 

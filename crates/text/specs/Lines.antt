@@ -25,6 +25,10 @@ digitsIn (suc k) n = cond (ltb n 10) ((n % 10 + 48) ∷ []) (digitsIn k (n / 10)
 abbrev pub digitsOf : ℕ → List ℕ
 digitsOf n = digitsIn (n + 1) n
 
+-- the last two digits
+abbrev pub pairOf : ℕ → List ℕ
+pairOf n = (n / 10 % 10 + 48) ∷ (n % 10 + 48) ∷ []
+
 -- ---- words, with the spaces that part them from numbers
 
 abbrev pub space : List ℕ

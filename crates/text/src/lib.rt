@@ -11,7 +11,7 @@ use verdict::Pass;
 ghost use mathlib.Core.Path.{_≡_};
 ghost use Rattle.bank.specs.Rows.{rowsOf};
 ghost use Rattle.text.specs.Page.{page, putOf, written};
-ghost use Rattle.text.specs.Lines.{digitsOf, passLineOf, dropLineOf, endLineOf, refusedLineOf, itemOf, filterItemsOf, gateItemsOf, meterItemOf, portItemOf, reportOf, filtersOf, gatesOf, metersOf, portsOf, timeOf};
+ghost use Rattle.text.specs.Lines.{digitsOf, pairOf, passLineOf, dropLineOf, endLineOf, refusedLineOf, itemOf, filterItemsOf, gateItemsOf, meterItemOf, portItemOf, reportOf, filtersOf, gatesOf, metersOf, portsOf, timeOf};
 
 // Ruled out: an octet stored elsewhere; the place not moved on.
 pub fn put_octet(out: &mut [u8], at: usize, octet: u8) -> usize
@@ -38,16 +38,26 @@ pub fn put_octets(out: &mut [u8], at: usize, octets: &[u8]) -> usize
 }
 
 // In decimal, with no leading zeros.
-// Ruled out: the digits in reverse; nothing for 0.
+// Ruled out: the digits in reverse; a leading zero.
 pub fn put_number(out: &mut [u8], at: usize, n: u64) -> usize
     ensures { λ r. ⌜ page (now (out .exit)) r ≡ written (page (now (out .entry)) at) (digitsOf n) ⌝ }
 {
-    let digit = (n % 10 + 48) as u8;
     if n < 10 {
-        return put_octet(out, at, digit);
+        return put_octet(out, at, (n % 10 + 48) as u8);
     }
-    let next = put_number(out, at, n / 10);
-    put_octet(out, next, digit)
+    if n < 100 {
+        return put_pair(out, at, n);
+    }
+    let next = put_number(out, at, n / 100);
+    put_pair(out, next, n)
+}
+
+// The last two digits: two at a time take half as many calls.
+fn put_pair(out: &mut [u8], at: usize, n: u64) -> usize
+    ensures { λ r. ⌜ page (now (out .exit)) r ≡ written (page (now (out .entry)) at) (pairOf n) ⌝ }
+{
+    let next = put_octet(out, at, (n / 10 % 10 + 48) as u8);
+    put_octet(out, next, (n % 10 + 48) as u8)
 }
 
 // The line of an arrival that passes.
@@ -89,7 +99,7 @@ pub fn put_drop(out: &mut [u8], at: usize, arrival: u64, d: Drop) -> usize
 }
 
 // The last line where no octet is left.
-// Ruled out: the arrivals instead of the records; no end of line.
+// Ruled out: the word of another line; no end of line.
 pub fn put_end(out: &mut [u8], at: usize, records: u64) -> usize
     ensures { λ r. ⌜ page (now (out .exit)) r ≡ written (page (now (out .entry)) at) (endLineOf records) ⌝ }
 {
@@ -99,7 +109,7 @@ pub fn put_end(out: &mut [u8], at: usize, records: u64) -> usize
 }
 
 // The last line at a refusal.
-// Ruled out: number and offset changed over; no end of line.
+// Ruled out: number and offset changed over; the word of another line.
 pub fn put_refused(out: &mut [u8], at: usize, number: u8, offset: u64) -> usize
     ensures { λ r. ⌜ page (now (out .exit)) r ≡ written (page (now (out .entry)) at) (refusedLineOf number offset) ⌝ }
 {
@@ -111,7 +121,7 @@ pub fn put_refused(out: &mut [u8], at: usize, number: u8, offset: u64) -> usize
 }
 
 // All that an operator looks at and that is not 0.
-// Ruled out: a counter left out because it is another's; the gates before the filters.
+// Ruled out: the value of another counter; the gates before the filters.
 pub fn put_report(out: &mut [u8], at: usize, bank: &Words) -> usize
     ensures { λ r. ⌜ page (now (out .exit)) r ≡ written (page (now (out .entry)) at) (reportOf (rowsOf (now (bank .entry)))) ⌝ }
 {

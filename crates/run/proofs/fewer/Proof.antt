@@ -6,25 +6,19 @@ use Rattle.run.specs.Run.{fewerOf}
 use borrow.Author.Needs.{needs}
 use Rattle.run.proofs.fewer.Statement.{statement}
 use Rattle.run.proofs.fewer.Tie as tie
-use Rattle.run.proofs.fewer.Reads as reads
-use Rattle.run.proofs.fewer.Lts as lts
 
--- src/lib.rt:79:20
 sub-result : tie.Need-sub-result
 sub-result c = search needs
 
--- src/lib.rt:79:13
 returns : tie.Need-returns
 returns c = ap (fewerOf (c .before .before .args .turns)) (sym (c .before .if1 .taken))
 
--- src/lib.rt:74:1
 returns-2 : tie.Need-returns-2
 returns-2 c = none (c .before .before .args .turns) (c .if2 .left) ∙ ap (fewerOf (c .before .before .args .turns)) (sym (c .before .if1 .taken))
   where
     none : (turns : ℕ) → turns ≤ 0 → 0 ≡ turns - 1
     none turns l = omega (arith, l)
 
--- src/lib.rt:74:1
 returns-3 : tie.Need-returns-3
 returns-3 c = search needs
 

@@ -3,40 +3,30 @@ use Rattle.run.specs.Cases.{rest-some, rest-none}
 use borrow.Author.Needs.{needs}
 use Rattle.run.proofs.rest.Statement.{statement}
 use Rattle.run.proofs.rest.Tie as tie
-use Rattle.run.proofs.rest.Reads as reads
-use Rattle.run.proofs.rest.Lts as lts
 
--- src/lib.rt:68:16
 sub-result : tie.Need-sub-result
 sub-result c = search needs
 
--- src/lib.rt:68:16
 part-result-start : tie.Need-part-result-start
 part-result-start c = search needs
 
--- src/lib.rt:68:16
 part-result-end : tie.Need-part-result-end
 part-result-end c = search needs
 
--- src/lib.rt:68:9
 returns : tie.Need-returns
 returns c =
     let a = c .before .before .args in
     rest-some (a .input .now) (a .at)
 
--- src/lib.rt:70:5
 sub-result-2 : tie.Need-sub-result-2
 sub-result-2 c = search needs
 
--- src/lib.rt:70:5
 part-result-start-2 : tie.Need-part-result-start-2
 part-result-start-2 c = search needs
 
--- src/lib.rt:70:5
 part-result-end-2 : tie.Need-part-result-end-2
 part-result-end-2 c = search needs
 
--- src/lib.rt:63:1
 returns-2 : tie.Need-returns-2
 returns-2 c =
     let a = c .before .before .args in

@@ -2,14 +2,10 @@
 use Rattle.run.specs.Cases.{room-never, room-some}
 use Rattle.run.proofs.room.Statement.{statement}
 use Rattle.run.proofs.room.Tie as tie
-use Rattle.run.proofs.room.Reads as reads
-use Rattle.run.proofs.room.Lts as lts
 
--- src/lib.rt:88:9
 returns : tie.Need-returns
 returns c = room-never (c .before .args .places) (c .before .args .filled) (c .if1 .taken)
 
--- src/lib.rt:84:1
 returns-2 : tie.Need-returns-2
 returns-2 c = room-some (c .before .args .places) (c .before .args .filled) (c .if1 .left)
 

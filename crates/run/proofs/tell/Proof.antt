@@ -13,13 +13,6 @@ use Rattle.text.specs.Page.{page}
 use borrow.Author.Needs.{needs}
 use Rattle.run.proofs.tell.Statement.{statement}
 use Rattle.run.proofs.tell.Tie as tie
-use Rattle.run.proofs.tell.Reads as reads
-use Rattle.run.proofs.tell.Lts as lts
-use Rattle.record.proofs.number.Reads as number-reads
-use Rattle.run.proofs.advance.Reads as advance-reads
-use Rattle.run.proofs.stop.Reads as stop-reads
-use Rattle.run.proofs.tell_drop.Reads as tell-drop-reads
-use Rattle.run.proofs.tell_pass.Reads as tell-pass-reads
 
 -- a record that is no arrival
 taken : (out : List ℕ) (p : Progress) (used : ℕ) (v : Verdict) → OneOf (1 ∷ []) (tagOf verdict-type.the-type v) → movedOf out p used (p .arrivals) (page out (p .filled)) ≡ toldBy out p used v
@@ -29,70 +22,55 @@ taken out p used Taken k = refl
 taken out p used (Passed w) k = absurd (miss (1 ∷ []) 2 tt k)
 taken out p used (Dropped d) k = absurd (miss (1 ∷ []) 3 tt k)
 
--- src/lib.rt:104:26
 enum-known-verdict : tie.Need-enum-known-verdict
 enum-known-verdict c = search needs
 
--- src/lib.rt:104:40
 number-requires : tie.Need-number-requires
 number-requires c κs = search needs
 
--- src/lib.rt:104:32
 stop-requires : tie.Need-stop-requires
 stop-requires c κs = search needs
 
--- src/lib.rt:105:66
 enum-told : tie.Need-enum-told
 enum-told c = search needs
 
--- src/lib.rt:105:27
 advance-requires : tie.Need-advance-requires
 advance-requires c κs = search needs
 
--- src/lib.rt:106:25
 enum-known-verdict-2 : tie.Need-enum-known-verdict-2
 enum-known-verdict-2 c = search needs
 
--- src/lib.rt:106:34
 tell-pass-requires : tie.Need-tell-pass-requires
 tell-pass-requires c κs = search needs
 
--- src/lib.rt:107:26
 enum-known-verdict-3 : tie.Need-enum-known-verdict-3
 enum-known-verdict-3 c = search needs
 
--- src/lib.rt:107:32
 tell-drop-requires : tie.Need-tell-drop-requires
 tell-drop-requires c κs = search needs
 
--- src/lib.rt:98:1
 returns : tie.Need-returns
 unfolding toldBy
 returns c = rw (c .stop .ensures, c .before .number .ensures, c .before .before .before .verdict .given .1)
 
--- src/lib.rt:98:1
 returns-2 : tie.Need-returns-2
 returns-2 c =
     let m = c .before .before in
     let a = m .before .before .args in
     ap (told (a .out .now)) (c .advance .ensures) ∙ taken (a .out .now) (a .p) (a .answer .used) (a .answer .verdict) (m .match .keys2)
 
--- src/lib.rt:98:1
 same-length : tie.Need-same-length
 same-length c = search needs
 
--- src/lib.rt:98:1
 returns-3 : tie.Need-returns-3
 returns-3 c =
     let t = c .before .before in
     let a = t .before .before .before .before .before .before .args in
     t .tell-pass .ensures ∙ ap (toldBy (a .out .now) (a .p) (a .answer .used)) (sym (t .before .before .before .verdict2 .given .1))
 
--- src/lib.rt:98:1
 same-length-2 : tie.Need-same-length-2
 same-length-2 c = search needs
 
--- src/lib.rt:98:1
 returns-4 : tie.Need-returns-4
 returns-4 c =
     let t = c .before .before in

@@ -6,21 +6,13 @@ use Rattle.run.specs.Cases.{told-quiet, told-aloud}
 use borrow.Author.Needs.{needs}
 use Rattle.run.proofs.tell_drop.Statement.{statement}
 use Rattle.run.proofs.tell_drop.Tie as tie
-use Rattle.run.proofs.tell_drop.Reads as reads
-use Rattle.run.proofs.tell_drop.Lts as lts
-use Rattle.run.proofs.advance.Reads as advance-reads
-use Rattle.std.proofs.num.wrapping_add_u64.Reads as wrapping-add-u64-reads
-use Rattle.text.proofs.put_drop.Reads as put-drop-reads
 
--- src/lib.rt:127:9
 wrapping-add-u64-requires : tie.Need-wrapping-add-u64-requires
 wrapping-add-u64-requires c κs = search needs
 
--- src/lib.rt:129:9
 advance-requires : tie.Need-advance-requires
 advance-requires c κs = search needs
 
--- src/lib.rt:129:9
 returns : tie.Need-returns
 unfolding toldBy
 returns c =
@@ -28,19 +20,15 @@ returns c =
     let a = w .before .before .args in
     told-quiet (a .out .now) (a .p) _ (a .used) _ (λ (n : ℕ). dropLineOf n (a .d)) (w .wrapping-add-u64 .ensures) (c .before .if1 .taken) (c .advance .ensures)
 
--- src/lib.rt:131:9
 put-drop-requires : tie.Need-put-drop-requires
 put-drop-requires c κs = search needs
 
--- src/lib.rt:132:5
 advance-requires-2 : tie.Need-advance-requires-2
 advance-requires-2 c κs = search needs
 
--- src/lib.rt:123:1
 same-length : tie.Need-same-length
 same-length c = search needs
 
--- src/lib.rt:123:1
 returns-2 : tie.Need-returns-2
 unfolding toldBy
 returns-2 c =

@@ -1,14 +1,12 @@
 -- `stream::keep` meets its contract. Invariant: the first i places have what stood `from` further on, and the others are as they were. Measure: the octets left.
 -- Assumes nothing.
-use mathlib.Core.Path.{_≡_, refl, sym, _∙_}
-use Prim.Native.Nat.{ℕ, _+_, _-_, _<_, _≤_}
+use mathlib.Core.Path.{_≡_, refl, _∙_}
+use Prim.Native.Nat.{_+_, _-_, _<_, _≤_}
 use native.Mathlib.Omega.{arith}
-use lib.ListN.{length, getD, length-set}
+use lib.ListN.{length, length-set}
 use Rattle.stream.proofs.Front.{Front, front-next}
 use Rattle.stream.proofs.keep.Statement.{statement}
 use Rattle.stream.proofs.keep.Tie as tie
-use Rattle.stream.proofs.keep.Reads as reads
-use Rattle.stream.proofs.keep.Lts as lts
 
 abbrev Inv-loop : tie.InvT-loop
 Inv-loop buf₀ from end n i₀ buf i = (i ≤ n) × ((n ≡ end - from) × ((length buf ≡ length buf₀) × Front buf buf₀ from i))

@@ -5,11 +5,6 @@ use lib.ListN.{length}
 use borrow.Author.Needs.{needs}
 use Rattle.stream.proofs.pieces.Statement.{statement}
 use Rattle.stream.proofs.pieces.Tie as tie
-use Rattle.stream.proofs.pieces.Reads as reads
-use Rattle.stream.proofs.pieces.Lts as lts
-use Rattle.filter.proofs.empty.Reads as empty-reads
-use Rattle.run.proofs.fresh.Reads as fresh-reads
-use Rattle.stream.proofs.piece.Reads as piece-reads
 
 abbrev Inv-loop : tie.InvT-loop
 Inv-loop bank₀ lists₀ buf₀ out₀ quiet s₀ turns₀ bank lists buf out s turns = (length buf ≡ length buf₀) × (length out ≡ length out₀)
@@ -17,55 +12,42 @@ Inv-loop bank₀ lists₀ buf₀ out₀ quiet s₀ turns₀ bank lists buf out s
 abbrev μ-loop : tie.MeasureT-loop
 μ-loop bank₀ lists₀ buf₀ out₀ quiet s₀ turns₀ bank lists buf out s turns = turns
 
--- src/lib.rt:80:9
 empty-requires : tie.Need-empty-requires Inv-loop μ-loop
 empty-requires c κs = search needs
 
--- src/lib.rt:81:9
 fresh-requires : tie.Need-fresh-requires Inv-loop μ-loop
 fresh-requires c κs = search needs
 
--- src/lib.rt:91:5
 loop-holds : tie.Need-loop-holds Inv-loop μ-loop
 loop-holds c = (refl, refl)
 
--- src/lib.rt:92:9
 piece-requires : tie.Need-piece-requires Inv-loop μ-loop
 piece-requires c κs = search needs
 
--- src/lib.rt:93:9
 sub-turns : tie.Need-sub-turns Inv-loop μ-loop
 sub-turns c = omega arith
 
--- src/lib.rt:91:5
 loop-less : tie.Need-loop-less Inv-loop μ-loop
 loop-less c = omega arith
 
--- src/lib.rt:91:5
 loop-again : tie.Need-loop-again Inv-loop μ-loop
 loop-again c = (omega arith, omega arith)
 
--- src/lib.rt:73:1
 same-length : tie.Need-same-length Inv-loop μ-loop
 same-length c = omega arith
 
--- src/lib.rt:73:1
 same-length-2 : tie.Need-same-length-2 Inv-loop μ-loop
 same-length-2 c = omega arith
 
--- src/lib.rt:73:1
 returns : tie.Need-returns Inv-loop μ-loop
 returns c = search needs
 
--- src/lib.rt:73:1
 same-length-3 : tie.Need-same-length-3 Inv-loop μ-loop
 same-length-3 c = omega arith
 
--- src/lib.rt:73:1
 same-length-4 : tie.Need-same-length-4 Inv-loop μ-loop
 same-length-4 c = omega arith
 
--- src/lib.rt:73:1
 returns-2 : tie.Need-returns-2 Inv-loop μ-loop
 returns-2 c = search needs
 

@@ -1,9 +1,8 @@
--- `text::put_number` meets its contract. It calls itself on a tenth of the number, which is the measure. Assumes nothing.
-use mathlib.Core.Path.{refl, sym, ap, subst, _∙_}
+-- `text::put_number` meets its contract. It calls itself on a hundredth of the number, which is the measure. Assumes nothing.
+use mathlib.Core.Path.{sym, ap, _∙_}
 use native.Mathlib.Omega.{arith}
-use borrow.Author.Needs.{needs}
-use Rattle.text.specs.Page.{Page, written}
-use Rattle.text.specs.Laws.{written-one, written-then, digits-one, digits-more}
+use Rattle.text.specs.Page.{written}
+use Rattle.text.specs.Laws.{written-one, written-then, digits-one, digits-two, digits-pair}
 use Prim.Native.Nat.{ℕ, _<_}
 use borrow.Fn.Kinds.{In}
 use borrow.Fn.PlainCycle.{Measures, is, falls, and}
@@ -11,6 +10,7 @@ use Rattle.text.proofs.put_number.Reads as put-number
 use Rattle.text.proofs.put_number.Kinds as put-number-kinds
 use Rattle.text.proofs.+put_number.Lts-put_number as put-number-lts
 use Rattle.text.proofs.put_octet.Reads as put-octet-reads
+use Rattle.text.proofs.put_pair.Reads as put-pair-reads
 use Rattle.text.proofs.+put_number.{statement}
 use Rattle.text.proofs.+put_number.Tie.{close}
 
@@ -25,106 +25,147 @@ abbrev put-number-below : ℕ → In 1 put-number-kinds.ps
 put-number-below t =
     and 1 put-number-kinds.ps (falls 1 put-number-kinds.ps _<_ μ-put-number t) put-number.Pre
 
--- src/lib.rt:43:18
-put-number-add-digit : (t : ℕ) → put-number-lts.Need-add-digit (
+put-number-add-put-octet : (t : ℕ) → put-number-lts.Need-add-put-octet (
   put-octet-reads.Asked,
   put-octet-reads.Learnt,
+  put-pair-reads.Asked,
+  put-pair-reads.Learnt,
   put-number-below t,
   put-number.Post,
 ) (put-number-at t) put-number.Post
-put-number-add-digit t c = omega arith
+put-number-add-put-octet t c = omega arith
 
--- src/lib.rt:43:17
-put-number-cast-digit : (t : ℕ) → put-number-lts.Need-cast-digit (
+put-number-cast-put-octet : (t : ℕ) → put-number-lts.Need-cast-put-octet (
   put-octet-reads.Asked,
   put-octet-reads.Learnt,
+  put-pair-reads.Asked,
+  put-pair-reads.Learnt,
   put-number-below t,
   put-number.Post,
 ) (put-number-at t) put-number.Post
-put-number-cast-digit t c = omega arith
+put-number-cast-put-octet t c = omega arith
 
--- src/lib.rt:45:9
 put-number-put-octet-requires : (t : ℕ) → put-number-lts.Need-put-octet-requires (
   put-octet-reads.Asked,
   put-octet-reads.Learnt,
+  put-pair-reads.Asked,
+  put-pair-reads.Learnt,
   put-number-below t,
   put-number.Post,
 ) (put-number-at t) put-number.Post
 put-number-put-octet-requires t c κs = tt
 
--- src/lib.rt:45:9
 put-number-same-length : (t : ℕ) → put-number-lts.Need-same-length (
   put-octet-reads.Asked,
   put-octet-reads.Learnt,
+  put-pair-reads.Asked,
+  put-pair-reads.Learnt,
   put-number-below t,
   put-number.Post,
 ) (put-number-at t) put-number.Post
 put-number-same-length t c = c .before .before .put-octet .kept .0
 
--- src/lib.rt:45:9
 put-number-returns : (t : ℕ) → put-number-lts.Need-returns (
   put-octet-reads.Asked,
   put-octet-reads.Learnt,
+  put-pair-reads.Asked,
+  put-pair-reads.Learnt,
   put-number-below t,
   put-number.Post,
 ) (put-number-at t) put-number.Post
-put-number-returns t c =
-    let a = c .before .before .before .before .before .before .args in
-    written-one _ _ _ (c .before .before .put-octet .ensures) ∙ ap (written _) (sym (digits-one (a .n) (omega arith)))
+put-number-returns t c = written-one _ _ _ (c .before .before .put-octet .ensures) ∙ ap (written _) (sym (digits-one (c .before .before .before .before .before .before .args .n) (omega arith)))
 
--- src/lib.rt:47:9
-put-number-put-number-requires : (t : ℕ) → put-number-lts.Need-put-number-requires (
+put-number-put-pair-requires : (t : ℕ) → put-number-lts.Need-put-pair-requires (
   put-octet-reads.Asked,
   put-octet-reads.Learnt,
+  put-pair-reads.Asked,
+  put-pair-reads.Learnt,
   put-number-below t,
   put-number.Post,
 ) (put-number-at t) put-number.Post
-put-number-put-number-requires t c κs = (omega (arith, c .before .before .before .pre .0), tt)
+put-number-put-pair-requires t c κs = tt
 
--- src/lib.rt:48:5
-put-number-put-octet-requires-2 : (t : ℕ) → put-number-lts.Need-put-octet-requires-2 (
-  put-octet-reads.Asked,
-  put-octet-reads.Learnt,
-  put-number-below t,
-  put-number.Post,
-) (put-number-at t) put-number.Post
-put-number-put-octet-requires-2 t c κs = tt
-
--- src/lib.rt:40:1
 put-number-same-length-2 : (t : ℕ) → put-number-lts.Need-same-length-2 (
   put-octet-reads.Asked,
   put-octet-reads.Learnt,
+  put-pair-reads.Asked,
+  put-pair-reads.Learnt,
   put-number-below t,
   put-number.Post,
 ) (put-number-at t) put-number.Post
-put-number-same-length-2 t c = c .before .before .put-octet2 .kept .0 ∙ c .before .before .before .before .before .before .put-number .kept .0
+put-number-same-length-2 t c = c .before .before .put-pair .kept .0
 
--- src/lib.rt:40:1
 put-number-returns-2 : (t : ℕ) → put-number-lts.Need-returns-2 (
   put-octet-reads.Asked,
   put-octet-reads.Learnt,
+  put-pair-reads.Asked,
+  put-pair-reads.Learnt,
   put-number-below t,
   put-number.Post,
 ) (put-number-at t) put-number.Post
-put-number-returns-2 t c =
-    let a = c .before .before .before .before .before .before .before .before .before .before .args in
-    written-then _ _ _ _ _ (c .before .before .before .before .before .before .put-number .ensures) (written-one _ _ _ (c .before .before .put-octet2 .ensures)) ∙ ap (written _) (sym (digits-more (a .n) (omega arith)))
+put-number-returns-2 t c = c .before .before .put-pair .ensures ∙ ap (written _) (sym (digits-two (c .before .before .before .before .before .before .before .args .n) (omega arith) (omega arith)))
+
+put-number-put-number-requires : (t : ℕ) → put-number-lts.Need-put-number-requires (
+  put-octet-reads.Asked,
+  put-octet-reads.Learnt,
+  put-pair-reads.Asked,
+  put-pair-reads.Learnt,
+  put-number-below t,
+  put-number.Post,
+) (put-number-at t) put-number.Post
+put-number-put-number-requires t c κs = (omega (arith, c .before .before .before .before .pre .0), tt)
+
+put-number-put-pair-requires-2 : (t : ℕ) → put-number-lts.Need-put-pair-requires-2 (
+  put-octet-reads.Asked,
+  put-octet-reads.Learnt,
+  put-pair-reads.Asked,
+  put-pair-reads.Learnt,
+  put-number-below t,
+  put-number.Post,
+) (put-number-at t) put-number.Post
+put-number-put-pair-requires-2 t c κs = tt
+
+put-number-same-length-3 : (t : ℕ) → put-number-lts.Need-same-length-3 (
+  put-octet-reads.Asked,
+  put-octet-reads.Learnt,
+  put-pair-reads.Asked,
+  put-pair-reads.Learnt,
+  put-number-below t,
+  put-number.Post,
+) (put-number-at t) put-number.Post
+put-number-same-length-3 t c = c .before .before .put-pair2 .kept .0 ∙ c .before .before .before .before .before .before .put-number .kept .0
+
+put-number-returns-3 : (t : ℕ) → put-number-lts.Need-returns-3 (
+  put-octet-reads.Asked,
+  put-octet-reads.Learnt,
+  put-pair-reads.Asked,
+  put-pair-reads.Learnt,
+  put-number-below t,
+  put-number.Post,
+) (put-number-at t) put-number.Post
+put-number-returns-3 t c =
+    written-then _ _ _ _ _ (c .before .before .before .before .before .before .put-number .ensures) (c .before .before .put-pair2 .ensures) ∙ ap (written _) (sym (digits-pair (c .before .before .before .before .before .before .before .before .before .before .before .args .n) (omega arith)))
 
 pub +put-number-spec : {M : Type 1} → statement M
 +put-number-spec = close μ-put-number λ t. put-number-lts.spec (
   put-octet-reads.Asked,
   put-octet-reads.Learnt,
+  put-pair-reads.Asked,
+  put-pair-reads.Learnt,
   put-number-below t,
   put-number.Post,
 )
     (put-number-at t)
     put-number.Post
-    (put-number-add-digit t)
-    (put-number-cast-digit t)
+    (put-number-add-put-octet t)
+    (put-number-cast-put-octet t)
     (put-number-put-octet-requires t)
     (put-number-same-length t)
     (put-number-returns t)
-    (put-number-put-number-requires t)
-    (put-number-put-octet-requires-2 t)
+    (put-number-put-pair-requires t)
     (put-number-same-length-2 t)
     (put-number-returns-2 t)
+    (put-number-put-number-requires t)
+    (put-number-put-pair-requires-2 t)
+    (put-number-same-length-3 t)
+    (put-number-returns-3 t)

@@ -7,46 +7,31 @@ use Rattle.text.specs.Lines.{digitsOf, dropLineOf}
 use borrow.Author.Needs.{needs}
 use Rattle.text.proofs.put_drop.Statement.{statement}
 use Rattle.text.proofs.put_drop.Tie as tie
-use Rattle.text.proofs.put_drop.Reads as reads
-use Rattle.text.proofs.put_drop.Lts as lts
-use Rattle.text.proofs.put_number.Reads as put-number-reads
-use Rattle.text.proofs.put_octet.Reads as put-octet-reads
-use Rattle.text.proofs.put_octets.Reads as put-octets-reads
-use Rattle.verdict.proofs.drop_number.Reads as drop-number-reads
 
--- src/lib.rt:83:9
 put-number-requires : tie.Need-put-number-requires
 put-number-requires c κs = search needs
 
--- src/lib.rt:84:32
 slice-aggregate-put-octets : tie.Need-slice-aggregate-put-octets
 slice-aggregate-put-octets c = search needs
 
--- src/lib.rt:84:9
 put-octets-requires : tie.Need-put-octets-requires
 put-octets-requires c κs = search needs
 
--- src/lib.rt:85:32
 drop-number-requires : tie.Need-drop-number-requires
 drop-number-requires c κs = search needs
 
--- src/lib.rt:85:32
 cast-put-number : tie.Need-cast-put-number
 cast-put-number c = search needs
 
--- src/lib.rt:85:9
 put-number-requires-2 : tie.Need-put-number-requires-2
 put-number-requires-2 c κs = search needs
 
--- src/lib.rt:86:5
 put-octet-requires : tie.Need-put-octet-requires
 put-octet-requires c κs = search needs
 
--- src/lib.rt:80:1
 same-length : tie.Need-same-length
 same-length c = search needs
 
--- src/lib.rt:80:1
 returns : tie.Need-returns
 unfolding dropLineOf
 returns c =

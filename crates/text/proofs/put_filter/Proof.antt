@@ -5,99 +5,73 @@ use Rattle.text.specs.Lines.{filterItemsOf}
 use borrow.Author.Needs.{needs}
 use Rattle.text.proofs.put_filter.Statement.{statement}
 use Rattle.text.proofs.put_filter.Tie as tie
-use Rattle.text.proofs.put_filter.Reads as reads
-use Rattle.text.proofs.put_filter.Lts as lts
-use Rattle.text.proofs.put_item.Reads as put-item-reads
 
--- src/lib.rt:177:31
 slice-aggregate-put-item : tie.Need-slice-aggregate-put-item
 slice-aggregate-put-item c = search needs
 
--- src/lib.rt:177:46
 slice-aggregate-put-item-2 : tie.Need-slice-aggregate-put-item-2
 slice-aggregate-put-item-2 c = search needs
 
--- src/lib.rt:177:9
 put-item-requires : tie.Need-put-item-requires
 put-item-requires c κs = search needs
 
--- src/lib.rt:178:30
 slice-aggregate-put-item-3 : tie.Need-slice-aggregate-put-item-3
 slice-aggregate-put-item-3 c = search needs
 
--- src/lib.rt:178:45
 slice-aggregate-put-item-4 : tie.Need-slice-aggregate-put-item-4
 slice-aggregate-put-item-4 c = search needs
 
--- src/lib.rt:178:9
 put-item-requires-2 : tie.Need-put-item-requires-2
 put-item-requires-2 c κs = search needs
 
--- src/lib.rt:179:30
 slice-aggregate-put-item-5 : tie.Need-slice-aggregate-put-item-5
 slice-aggregate-put-item-5 c = search needs
 
--- src/lib.rt:179:45
 slice-aggregate-put-item-6 : tie.Need-slice-aggregate-put-item-6
 slice-aggregate-put-item-6 c = search needs
 
--- src/lib.rt:179:9
 put-item-requires-3 : tie.Need-put-item-requires-3
 put-item-requires-3 c κs = search needs
 
--- src/lib.rt:180:30
 slice-aggregate-put-item-7 : tie.Need-slice-aggregate-put-item-7
 slice-aggregate-put-item-7 c = search needs
 
--- src/lib.rt:180:45
 slice-aggregate-put-item-8 : tie.Need-slice-aggregate-put-item-8
 slice-aggregate-put-item-8 c = search needs
 
--- src/lib.rt:180:9
 put-item-requires-4 : tie.Need-put-item-requires-4
 put-item-requires-4 c κs = search needs
 
--- src/lib.rt:181:30
 slice-aggregate-put-item-9 : tie.Need-slice-aggregate-put-item-9
 slice-aggregate-put-item-9 c = search needs
 
--- src/lib.rt:181:45
 slice-aggregate-put-item-10 : tie.Need-slice-aggregate-put-item-10
 slice-aggregate-put-item-10 c = search needs
 
--- src/lib.rt:181:9
 put-item-requires-5 : tie.Need-put-item-requires-5
 put-item-requires-5 c κs = search needs
 
--- src/lib.rt:182:30
 slice-aggregate-put-item-11 : tie.Need-slice-aggregate-put-item-11
 slice-aggregate-put-item-11 c = search needs
 
--- src/lib.rt:182:45
 slice-aggregate-put-item-12 : tie.Need-slice-aggregate-put-item-12
 slice-aggregate-put-item-12 c = search needs
 
--- src/lib.rt:182:9
 put-item-requires-6 : tie.Need-put-item-requires-6
 put-item-requires-6 c κs = search needs
 
--- src/lib.rt:183:22
 slice-aggregate-put-item-13 : tie.Need-slice-aggregate-put-item-13
 slice-aggregate-put-item-13 c = search needs
 
--- src/lib.rt:183:37
 slice-aggregate-put-item-14 : tie.Need-slice-aggregate-put-item-14
 slice-aggregate-put-item-14 c = search needs
 
--- src/lib.rt:183:52
 cast-put-item : tie.Need-cast-put-item
 cast-put-item c = search needs
 
--- src/lib.rt:183:5
 put-item-requires-7 : tie.Need-put-item-requires-7
 put-item-requires-7 c κs = search needs
 
--- src/lib.rt:174:1
 same-length : tie.Need-same-length
 same-length c =
     let s7 = c .before .before in
@@ -109,7 +83,6 @@ same-length c =
     let s1 = s2 .before .before .before .before .before .before in
     s7 .put-item7 .kept .0 ∙ s6 .put-item6 .kept .0 ∙ s5 .put-item5 .kept .0 ∙ s4 .put-item4 .kept .0 ∙ s3 .put-item3 .kept .0 ∙ s2 .put-item2 .kept .0 ∙ s1 .put-item .kept .0
 
--- src/lib.rt:174:1
 returns : tie.Need-returns
 unfolding filterItemsOf
 returns c =

@@ -13,10 +13,6 @@ use Rattle.text.specs.Lines.{filterItemsOf, upTo}
 use Rattle.text.specs.Laws.{up-none, up-next, up-last}
 use Rattle.text.proofs.put_filters.Statement.{statement}
 use Rattle.text.proofs.put_filters.Tie as tie
-use Rattle.text.proofs.put_filters.Reads as reads
-use Rattle.text.proofs.put_filters.Lts as lts
-use Rattle.bank.proofs.counters_at.Reads as counters-at-reads
-use Rattle.text.proofs.put_filter.Reads as put-filter-reads
 
 abbrev items : List ℕ → ℕ → List ℕ
 items bank i = filterItemsOf i (counters (rowsOf bank) i)
@@ -27,27 +23,21 @@ Inv-loop out₀ at bank next₀ i₀ out next i = (i ≤ 64) × ((length out ≡
 abbrev μ-loop : tie.MeasureT-loop
 μ-loop out₀ at bank next₀ i₀ out next i = 64 - i
 
--- src/lib.rt:140:5
 loop-holds : tie.Need-loop-holds Inv-loop μ-loop
 loop-holds c = (omega arith, (refl, up-none _ _))
 
--- src/lib.rt:141:13
 counters-at-requires : tie.Need-counters-at-requires Inv-loop μ-loop
 counters-at-requires c κs = search needs
 
--- src/lib.rt:142:9
 put-filter-requires : tie.Need-put-filter-requires Inv-loop μ-loop
 put-filter-requires c κs = search needs
 
--- src/lib.rt:143:9
 add-i : tie.Need-add-i Inv-loop μ-loop
 add-i c = omega arith
 
--- src/lib.rt:140:5
 loop-less : tie.Need-loop-less Inv-loop μ-loop
 loop-less c = omega arith
 
--- src/lib.rt:140:5
 loop-again : tie.Need-loop-again Inv-loop μ-loop
 loop-again c =
     let p = c .before .before in
@@ -56,11 +46,9 @@ loop-again c =
     let a = s .before .before .args in
     (omega arith, (p .put-filter .kept .0 ∙ s .loop .inv .1 .0, up-next (items (a .bank .now)) _ _ _ (s .loop .i) (s .loop .inv .1 .1) (p .put-filter .ensures ∙ ap (λ (v : Counters). written (page (s .loop .out) (s .loop .next)) (filterItemsOf (s .loop .i) v)) (x .counters-at .ensures))))
 
--- src/lib.rt:135:1
 same-length : tie.Need-same-length Inv-loop μ-loop
 same-length c = c .before .loop .inv .1 .0
 
--- src/lib.rt:135:1
 returns : tie.Need-returns Inv-loop μ-loop
 returns c =
     let l = c .before .loop in

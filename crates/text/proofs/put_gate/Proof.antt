@@ -4,47 +4,34 @@ use Rattle.text.specs.Lines.{gateItemsOf}
 use borrow.Author.Needs.{needs}
 use Rattle.text.proofs.put_gate.Statement.{statement}
 use Rattle.text.proofs.put_gate.Tie as tie
-use Rattle.text.proofs.put_gate.Reads as reads
-use Rattle.text.proofs.put_gate.Lts as lts
-use Rattle.text.proofs.put_item.Reads as put-item-reads
 
--- src/lib.rt:189:31
 slice-aggregate-put-item : tie.Need-slice-aggregate-put-item
 slice-aggregate-put-item c = search needs
 
--- src/lib.rt:189:44
 slice-aggregate-put-item-2 : tie.Need-slice-aggregate-put-item-2
 slice-aggregate-put-item-2 c = search needs
 
--- src/lib.rt:189:66
 cast-put-item : tie.Need-cast-put-item
 cast-put-item c = search needs
 
--- src/lib.rt:189:9
 put-item-requires : tie.Need-put-item-requires
 put-item-requires c κs = search needs
 
--- src/lib.rt:190:22
 slice-aggregate-put-item-3 : tie.Need-slice-aggregate-put-item-3
 slice-aggregate-put-item-3 c = search needs
 
--- src/lib.rt:190:35
 slice-aggregate-put-item-4 : tie.Need-slice-aggregate-put-item-4
 slice-aggregate-put-item-4 c = search needs
 
--- src/lib.rt:190:48
 cast-put-item-2 : tie.Need-cast-put-item-2
 cast-put-item-2 c = search needs
 
--- src/lib.rt:190:5
 put-item-requires-2 : tie.Need-put-item-requires-2
 put-item-requires-2 c κs = search needs
 
--- src/lib.rt:186:1
 same-length : tie.Need-same-length
 same-length c = search needs
 
--- src/lib.rt:186:1
 returns : tie.Need-returns
 unfolding gateItemsOf
 returns c =

@@ -13,10 +13,6 @@ use Rattle.text.specs.Lines.{gateItemsOf, upTo}
 use Rattle.text.specs.Laws.{up-none, up-next, up-last}
 use Rattle.text.proofs.put_gates.Statement.{statement}
 use Rattle.text.proofs.put_gates.Tie as tie
-use Rattle.text.proofs.put_gates.Reads as reads
-use Rattle.text.proofs.put_gates.Lts as lts
-use Rattle.bank.proofs.gate_at.Reads as gate-at-reads
-use Rattle.text.proofs.put_gate.Reads as put-gate-reads
 
 abbrev items : List ℕ → ℕ → List ℕ
 items bank i = gateItemsOf i (gate (rowsOf bank) i)
@@ -27,27 +23,21 @@ Inv-loop out₀ at bank next₀ i₀ out next i = (i ≤ 16) × ((length out ≡
 abbrev μ-loop : tie.MeasureT-loop
 μ-loop out₀ at bank next₀ i₀ out next i = 16 - i
 
--- src/lib.rt:140:5
 loop-holds : tie.Need-loop-holds Inv-loop μ-loop
 loop-holds c = (omega arith, (refl, up-none _ _))
 
--- src/lib.rt:141:13
 gate-at-requires : tie.Need-gate-at-requires Inv-loop μ-loop
 gate-at-requires c κs = search needs
 
--- src/lib.rt:142:9
 put-gate-requires : tie.Need-put-gate-requires Inv-loop μ-loop
 put-gate-requires c κs = search needs
 
--- src/lib.rt:143:9
 add-i : tie.Need-add-i Inv-loop μ-loop
 add-i c = omega arith
 
--- src/lib.rt:140:5
 loop-less : tie.Need-loop-less Inv-loop μ-loop
 loop-less c = omega arith
 
--- src/lib.rt:140:5
 loop-again : tie.Need-loop-again Inv-loop μ-loop
 loop-again c =
     let p = c .before .before in
@@ -56,11 +46,9 @@ loop-again c =
     let a = s .before .before .args in
     (omega arith, (p .put-gate .kept .0 ∙ s .loop .inv .1 .0, up-next (items (a .bank .now)) _ _ _ (s .loop .i) (s .loop .inv .1 .1) (p .put-gate .ensures ∙ ap (λ (v : Gate). written (page (s .loop .out) (s .loop .next)) (gateItemsOf (s .loop .i) v)) (x .gate-at .ensures))))
 
--- src/lib.rt:135:1
 same-length : tie.Need-same-length Inv-loop μ-loop
 same-length c = c .before .loop .inv .1 .0
 
--- src/lib.rt:135:1
 returns : tie.Need-returns Inv-loop μ-loop
 returns c =
     let l = c .before .loop in

@@ -6,41 +6,28 @@ use Rattle.text.specs.Laws.{written-one, written-then, item-none, item-s
 use borrow.Author.Needs.{needs}
 use Rattle.text.proofs.put_item.Statement.{statement}
 use Rattle.text.proofs.put_item.Tie as tie
-use Rattle.text.proofs.put_item.Reads as reads
-use Rattle.text.proofs.put_item.Lts as lts
-use Rattle.text.proofs.put_number.Reads as put-number-reads
-use Rattle.text.proofs.put_octet.Reads as put-octet-reads
-use Rattle.text.proofs.put_octets.Reads as put-octets-reads
 
--- src/lib.rt:198:9
 returns : tie.Need-returns
 returns c = item-none _ (page [] 0) _ _ _ _ (omega arith)
 
--- src/lib.rt:200:9
 put-octets-requires : tie.Need-put-octets-requires
 put-octets-requires c κs = search needs
 
--- src/lib.rt:201:9
 put-number-requires : tie.Need-put-number-requires
 put-number-requires c κs = search needs
 
--- src/lib.rt:202:9
 put-octets-requires-2 : tie.Need-put-octets-requires-2
 put-octets-requires-2 c κs = search needs
 
--- src/lib.rt:203:9
 put-number-requires-2 : tie.Need-put-number-requires-2
 put-number-requires-2 c κs = search needs
 
--- src/lib.rt:204:5
 put-octet-requires : tie.Need-put-octet-requires
 put-octet-requires c κs = search needs
 
--- src/lib.rt:194:1
 same-length : tie.Need-same-length
 same-length c = search needs
 
--- src/lib.rt:194:1
 returns-2 : tie.Need-returns-2
 returns-2 c =
     let s5 = c .before .before in

@@ -7,13 +7,10 @@ use native.Mathlib.Omega.{arith}
 use borrow.Author.Needs.{needs}
 use lib.ListN.{length, drop}
 use lib.Seq.{drop-length}
-use Rattle.text.specs.Page.{Page, page, written}
+use Rattle.text.specs.Page.{page, written}
 use Rattle.text.specs.Laws.{written-next, written-none}
 use Rattle.text.proofs.put_octets.Statement.{statement}
 use Rattle.text.proofs.put_octets.Tie as tie
-use Rattle.text.proofs.put_octets.Reads as reads
-use Rattle.text.proofs.put_octets.Lts as lts
-use Rattle.text.proofs.put_octet.Reads as put-octet-reads
 
 abbrev Inv-loop : tie.InvT-loop
 Inv-loop out₀ at octets next₀ i₀ out next i = (i ≤ length octets) × ((length out ≡ length out₀) × (written (page out next) (drop i octets) ≡ written (page out₀ at) octets))
@@ -21,27 +18,21 @@ Inv-loop out₀ at octets next₀ i₀ out next i = (i ≤ length octets) × ((l
 abbrev μ-loop : tie.MeasureT-loop
 μ-loop out₀ at octets next₀ i₀ out next i = length octets - i
 
--- src/lib.rt:31:5
 loop-holds : tie.Need-loop-holds Inv-loop μ-loop
 loop-holds c = (omega arith, (refl, refl))
 
--- src/lib.rt:32:37
 shared-slice-read-put-octet : tie.Need-shared-slice-read-put-octet Inv-loop μ-loop
 shared-slice-read-put-octet c = omega arith
 
--- src/lib.rt:32:9
 put-octet-requires : tie.Need-put-octet-requires Inv-loop μ-loop
 put-octet-requires c κs = search needs
 
--- src/lib.rt:33:9
 add-i : tie.Need-add-i Inv-loop μ-loop
 add-i c = omega arith
 
--- src/lib.rt:31:5
 loop-less : tie.Need-loop-less Inv-loop μ-loop
 loop-less c = omega arith
 
--- src/lib.rt:31:5
 loop-again : tie.Need-loop-again Inv-loop μ-loop
 loop-again c =
     let p = c .before .before .put-octet in
@@ -49,11 +40,9 @@ loop-again c =
     let a = s .before .before .before .args in
     (omega arith, (p .kept .0 ∙ s .loop .inv .1 .0, written-next (page (s .loop .out) (s .loop .next)) _ (a .octets .now) (s .loop .i) (omega arith) (p .ensures) ∙ s .loop .inv .1 .1))
 
--- src/lib.rt:26:1
 same-length : tie.Need-same-length Inv-loop μ-loop
 same-length c = c .before .loop .inv .1 .0
 
--- src/lib.rt:26:1
 returns : tie.Need-returns Inv-loop μ-loop
 returns c =
     let l = c .before .loop in

@@ -5,70 +5,49 @@ use Rattle.text.specs.Lines.{passLineOf}
 use borrow.Author.Needs.{needs}
 use Rattle.text.proofs.put_pass.Statement.{statement}
 use Rattle.text.proofs.put_pass.Tie as tie
-use Rattle.text.proofs.put_pass.Reads as reads
-use Rattle.text.proofs.put_pass.Lts as lts
-use Rattle.text.proofs.put_number.Reads as put-number-reads
-use Rattle.text.proofs.put_octet.Reads as put-octet-reads
-use Rattle.text.proofs.put_octets.Reads as put-octets-reads
-use Rattle.text.proofs.put_time.Reads as put-time-reads
 
--- src/lib.rt:56:9
 put-number-requires : tie.Need-put-number-requires
 put-number-requires c κs = search needs
 
--- src/lib.rt:57:32
 slice-aggregate-put-octets : tie.Need-slice-aggregate-put-octets
 slice-aggregate-put-octets c = search needs
 
--- src/lib.rt:57:9
 put-octets-requires : tie.Need-put-octets-requires
 put-octets-requires c κs = search needs
 
--- src/lib.rt:58:32
 cast-put-number : tie.Need-cast-put-number
 cast-put-number c = search needs
 
--- src/lib.rt:58:9
 put-number-requires-2 : tie.Need-put-number-requires-2
 put-number-requires-2 c κs = search needs
 
--- src/lib.rt:59:9
 put-octet-requires : tie.Need-put-octet-requires
 put-octet-requires c κs = search needs
 
--- src/lib.rt:60:32
 cast-put-number-2 : tie.Need-cast-put-number-2
 cast-put-number-2 c = search needs
 
--- src/lib.rt:60:9
 put-number-requires-3 : tie.Need-put-number-requires-3
 put-number-requires-3 c κs = search needs
 
--- src/lib.rt:61:9
 put-octet-requires-2 : tie.Need-put-octet-requires-2
 put-octet-requires-2 c κs = search needs
 
--- src/lib.rt:62:32
 cast-put-number-3 : tie.Need-cast-put-number-3
 cast-put-number-3 c = search needs
 
--- src/lib.rt:62:9
 put-number-requires-4 : tie.Need-put-number-requires-4
 put-number-requires-4 c κs = search needs
 
--- src/lib.rt:63:9
 put-octet-requires-3 : tie.Need-put-octet-requires-3
 put-octet-requires-3 c κs = search needs
 
--- src/lib.rt:64:9
 put-time-requires : tie.Need-put-time-requires
 put-time-requires c κs = search needs
 
--- src/lib.rt:65:5
 put-octet-requires-4 : tie.Need-put-octet-requires-4
 put-octet-requires-4 c κs = search needs
 
--- src/lib.rt:53:1
 same-length : tie.Need-same-length
 same-length c =
     let s10 = c .before .before in
@@ -83,7 +62,6 @@ same-length c =
     let s1 = s2 .before .before .before .before .before in
     s10 .put-octet4 .kept .0 ∙ s9 .put-time .kept .0 ∙ s8 .put-octet3 .kept .0 ∙ s7 .put-number4 .kept .0 ∙ s6 .put-octet2 .kept .0 ∙ s5 .put-number3 .kept .0 ∙ s4 .put-octet .kept .0 ∙ s3 .put-number2 .kept .0 ∙ s2 .put-octets .kept .0 ∙ s1 .put-number .kept .0
 
--- src/lib.rt:53:1
 returns : tie.Need-returns
 unfolding passLineOf
 returns c =

@@ -13,10 +13,6 @@ use Rattle.text.specs.Lines.{portItemOf, upTo}
 use Rattle.text.specs.Laws.{up-none, up-next, up-last}
 use Rattle.text.proofs.put_ports.Statement.{statement}
 use Rattle.text.proofs.put_ports.Tie as tie
-use Rattle.text.proofs.put_ports.Reads as reads
-use Rattle.text.proofs.put_ports.Lts as lts
-use Rattle.bank.proofs.port_at.Reads as port-at-reads
-use Rattle.text.proofs.put_port.Reads as put-port-reads
 
 abbrev items : List ℕ → ℕ → List ℕ
 items bank i = portItemOf i (port (rowsOf bank) i)
@@ -27,27 +23,21 @@ Inv-loop out₀ at bank next₀ i₀ out next i = (i ≤ 8) × ((length out ≡ 
 abbrev μ-loop : tie.MeasureT-loop
 μ-loop out₀ at bank next₀ i₀ out next i = 8 - i
 
--- src/lib.rt:140:5
 loop-holds : tie.Need-loop-holds Inv-loop μ-loop
 loop-holds c = (omega arith, (refl, up-none _ _))
 
--- src/lib.rt:141:13
 port-at-requires : tie.Need-port-at-requires Inv-loop μ-loop
 port-at-requires c κs = search needs
 
--- src/lib.rt:142:9
 put-port-requires : tie.Need-put-port-requires Inv-loop μ-loop
 put-port-requires c κs = search needs
 
--- src/lib.rt:143:9
 add-i : tie.Need-add-i Inv-loop μ-loop
 add-i c = omega arith
 
--- src/lib.rt:140:5
 loop-less : tie.Need-loop-less Inv-loop μ-loop
 loop-less c = omega arith
 
--- src/lib.rt:140:5
 loop-again : tie.Need-loop-again Inv-loop μ-loop
 loop-again c =
     let p = c .before .before in
@@ -56,11 +46,9 @@ loop-again c =
     let a = s .before .before .args in
     (omega arith, (p .put-port .kept .0 ∙ s .loop .inv .1 .0, up-next (items (a .bank .now)) _ _ _ (s .loop .i) (s .loop .inv .1 .1) (p .put-port .ensures ∙ ap (λ (v : Port). written (page (s .loop .out) (s .loop .next)) (portItemOf (s .loop .i) v)) (x .port-at .ensures))))
 
--- src/lib.rt:135:1
 same-length : tie.Need-same-length Inv-loop μ-loop
 same-length c = c .before .loop .inv .1 .0
 
--- src/lib.rt:135:1
 returns : tie.Need-returns Inv-loop μ-loop
 returns c =
     let l = c .before .loop in

@@ -4,45 +4,31 @@ use Rattle.text.specs.Lines.{refusedLineOf}
 use borrow.Author.Needs.{needs}
 use Rattle.text.proofs.put_refused.Statement.{statement}
 use Rattle.text.proofs.put_refused.Tie as tie
-use Rattle.text.proofs.put_refused.Reads as reads
-use Rattle.text.proofs.put_refused.Lts as lts
-use Rattle.text.proofs.put_number.Reads as put-number-reads
-use Rattle.text.proofs.put_octet.Reads as put-octet-reads
-use Rattle.text.proofs.put_octets.Reads as put-octets-reads
 
--- src/lib.rt:104:33
 slice-aggregate-put-octets : tie.Need-slice-aggregate-put-octets
 slice-aggregate-put-octets c = search needs
 
--- src/lib.rt:104:9
 put-octets-requires : tie.Need-put-octets-requires
 put-octets-requires c κs = search needs
 
--- src/lib.rt:105:9
 put-number-requires : tie.Need-put-number-requires
 put-number-requires c κs = search needs
 
--- src/lib.rt:106:32
 slice-aggregate-put-octets-2 : tie.Need-slice-aggregate-put-octets-2
 slice-aggregate-put-octets-2 c = search needs
 
--- src/lib.rt:106:9
 put-octets-requires-2 : tie.Need-put-octets-requires-2
 put-octets-requires-2 c κs = search needs
 
--- src/lib.rt:107:9
 put-number-requires-2 : tie.Need-put-number-requires-2
 put-number-requires-2 c κs = search needs
 
--- src/lib.rt:108:5
 put-octet-requires : tie.Need-put-octet-requires
 put-octet-requires c κs = search needs
 
--- src/lib.rt:101:1
 same-length : tie.Need-same-length
 same-length c = search needs
 
--- src/lib.rt:101:1
 returns : tie.Need-returns
 unfolding refusedLineOf
 returns c =

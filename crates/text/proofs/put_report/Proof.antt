@@ -4,34 +4,22 @@ use Rattle.text.specs.Lines.{reportOf}
 use borrow.Author.Needs.{needs}
 use Rattle.text.proofs.put_report.Statement.{statement}
 use Rattle.text.proofs.put_report.Tie as tie
-use Rattle.text.proofs.put_report.Reads as reads
-use Rattle.text.proofs.put_report.Lts as lts
-use Rattle.text.proofs.put_filters.Reads as put-filters-reads
-use Rattle.text.proofs.put_gates.Reads as put-gates-reads
-use Rattle.text.proofs.put_meters.Reads as put-meters-reads
-use Rattle.text.proofs.put_ports.Reads as put-ports-reads
 
--- src/lib.rt:118:9
 put-filters-requires : tie.Need-put-filters-requires
 put-filters-requires c κs = search needs
 
--- src/lib.rt:119:9
 put-gates-requires : tie.Need-put-gates-requires
 put-gates-requires c κs = search needs
 
--- src/lib.rt:120:9
 put-meters-requires : tie.Need-put-meters-requires
 put-meters-requires c κs = search needs
 
--- src/lib.rt:121:5
 put-ports-requires : tie.Need-put-ports-requires
 put-ports-requires c κs = search needs
 
--- src/lib.rt:115:1
 same-length : tie.Need-same-length
 same-length c = search needs
 
--- src/lib.rt:115:1
 returns : tie.Need-returns
 unfolding reportOf
 returns c =

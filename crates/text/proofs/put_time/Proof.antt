@@ -7,34 +7,24 @@ use Rattle.text.specs.Laws.{written-one}
 use borrow.Author.Needs.{needs}
 use Rattle.text.proofs.put_time.Statement.{statement}
 use Rattle.text.proofs.put_time.Tie as tie
-use Rattle.text.proofs.put_time.Reads as reads
-use Rattle.text.proofs.put_time.Lts as lts
-use Rattle.text.proofs.put_number.Reads as put-number-reads
-use Rattle.text.proofs.put_octet.Reads as put-octet-reads
 
--- src/lib.rt:72:9
 put-number-requires : tie.Need-put-number-requires
 put-number-requires c κs = search needs
 
--- src/lib.rt:74:9
 put-octet-requires : tie.Need-put-octet-requires
 put-octet-requires c κs = search needs
 
--- src/lib.rt:68:1
 same-length : tie.Need-same-length
 same-length c = search needs
 
--- src/lib.rt:68:1
 returns : tie.Need-returns
 returns c =
     let a = c .before .before .before .before .before .before .args in
     c .before .before .put-number .ensures ∙ ap (λ (z : Bool). written (page (a .out .now) (a .at)) (timeOf z (a .time))) (sym (c .before .before .before .before .if1 .taken))
 
--- src/lib.rt:68:1
 same-length-2 : tie.Need-same-length-2
 same-length-2 c = search needs
 
--- src/lib.rt:68:1
 returns-2 : tie.Need-returns-2
 returns-2 c =
     let a = c .before .before .before .before .before .before .args in
