@@ -19,7 +19,7 @@ test:
 	@.ci/run
 
 lib:
-	@rt staticlib transomrib
+	@rt staticlib transomrib | grep '^rt: target/'
 
 second:
 	@$(CARGO) build --release --offline --manifest-path second/Cargo.toml
