@@ -1,3 +1,4 @@
 pub mod Filter
 pub mod Laws
 pub mod Search
+pub mod Seek

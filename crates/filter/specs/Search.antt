@@ -16,35 +16,36 @@ use Rattle.filter.specs.declared.Question.{Question}
 use Rattle.filter.specs.Filter.{noRow, isFilterOf, countsOf, rowOf, answersOf, firstOf, searchFrom, searchOf}
 use Rattle.filter.specs.Laws.{SameParts, answers-same, answers-empty, answers-spoiled, answers-no-filter}
 
--- ---- a place at a time, as the loop goes
-
-module _ (s : Rows) (q : Question) (rows : List Filter) where
-  pub search-begins : searchFrom s q rows (q .from) ≡ searchOf s q rows
-  unfolding searchOf
-  search-begins = refl
-
-  search-turn : (i : ℕ) → i < q .to → searchFrom s q rows i ≡ cond (answersOf s q (rowOf rows i)) i (searchFrom s q rows (i + 1))
-  search-turn i h = ap (firstOf (λ (j : ℕ). answersOf s q (rowOf rows j)) i) (one-less (q .to) i h)
-    where
-      one-less : (n i : ℕ) → i < n → n - i ≡ suc (n - (i + 1))
-      one-less n i h = omega (arith, h)
-
-  pub search-found : (i : ℕ) → i < q .to → answersOf s q (rowOf rows i) ≡ true → searchFrom s q rows i ≡ i
-  search-found i h e = search-turn i h ∙ ap (λ (t : Bool). cond t i (searchFrom s q rows (i + 1))) e
-
-  pub search-next : (i : ℕ) → i < q .to → answersOf s q (rowOf rows i) ≡ false → searchFrom s q rows i ≡ searchFrom s q rows (i + 1)
-  search-next i h e = search-turn i h ∙ ap (λ (t : Bool). cond t i (searchFrom s q rows (i + 1))) e
-
-  pub search-over : (i : ℕ) → q .to ≤ i → searchFrom s q rows i ≡ i
-  search-over i h = ap (firstOf (λ (j : ℕ). answersOf s q (rowOf rows j)) i) (none-left (q .to) i h)
-    where
-      none-left : (n i : ℕ) → n ≤ i → n - i ≡ 0
-      none-left n i h = omega (arith, h)
-
 -- ---- the first place at which a test holds
 
 module _ (test : ℕ → Bool) where
-  first-from : (i n : ℕ) → i ≤ firstOf test i n
+  -- a place at a time, as a loop goes up to and without `end`
+  first-turn : (end i : ℕ) → i < end → firstOf test i (end - i) ≡ cond (test i) i (firstOf test (i + 1) (end - (i + 1)))
+  first-turn end i h = ap (firstOf test i) (one-less h)
+    where
+      one-less : i < end → end - i ≡ suc (end - (i + 1))
+      one-less h = omega (arith, h)
+
+  pub first-found : (end i : ℕ) → i < end → test i ≡ true → firstOf test i (end - i) ≡ i
+  first-found end i h e = first-turn end i h ∙ ap (λ (t : Bool). cond t i (firstOf test (i + 1) (end - (i + 1)))) e
+
+  pub first-next : (end i : ℕ) → i < end → test i ≡ false → firstOf test i (end - i) ≡ firstOf test (i + 1) (end - (i + 1))
+  first-next end i h e = first-turn end i h ∙ ap (λ (t : Bool). cond t i (firstOf test (i + 1) (end - (i + 1)))) e
+
+  pub first-over : (end i : ℕ) → end ≤ i → firstOf test i (end - i) ≡ i
+  first-over end i h = ap (firstOf test i) (none-left h)
+    where
+      none-left : end ≤ i → end - i ≡ 0
+      none-left h = omega (arith, h)
+
+  -- places at which it doesn't hold can be passed over
+  pub first-past : (end i n : ℕ) → i + n ≤ end → ((j : ℕ) → i ≤ j → j < i + n → test j ≡ false) → firstOf test i (end - i) ≡ firstOf test (i + n) (end - (i + n))
+  first-past end i zero h none = ap (λ (k : ℕ). firstOf test k (end - k)) (omega arith)
+  first-past end i (suc n) h none =
+      first-next end i (omega (arith, h)) (none i (omega arith) (omega arith)) ∙ first-past end (i + 1) n (omega (arith, h)) (λ j l u. none j (omega (arith, l)) (omega (arith, u)))
+      ∙ ap (λ (k : ℕ). firstOf test k (end - k)) (omega arith)
+
+  pub first-from : (i n : ℕ) → i ≤ firstOf test i n
   first-from i zero = omega arith
   first-from i (suc n) = by-test (test i) (first-from (i + 1) n)
     where
@@ -52,7 +53,7 @@ module _ (test : ℕ → Bool) where
       by-test true h = omega arith
       by-test false h = omega (arith, h)
 
-  first-to : (i n : ℕ) → firstOf test i n ≤ i + n
+  pub first-to : (i n : ℕ) → firstOf test i n ≤ i + n
   first-to i zero = omega arith
   first-to i (suc n) = by-test (test i) (first-to (i + 1) n)
     where
@@ -69,7 +70,7 @@ module _ (test : ℕ → Bool) where
       by-test true e l k = e
       by-test false e l k = k (omega (arith, l))
 
-  first-least : (i n j : ℕ) → i ≤ j → j < firstOf test i n → test j ≡ false
+  pub first-least : (i n j : ℕ) → i ≤ j → j < firstOf test i n → test j ≡ false
   first-least i zero j h l = absurd (omega (arith, h, l))
   first-least i (suc n) j h l = by-test (test i) refl l (ℕ-discrete j i) (first-least (i + 1) n j)
     where
@@ -78,11 +79,26 @@ module _ (test : ℕ → Bool) where
       by-test false e l (yes p) k = ap test p ∙ e
       by-test false e l (no p) k = k (omega (arith, h, p)) l
 
--- ---- the search finds the first row that answers, and nothing else
+-- ---- the search, a place at a time
 
 module _ (s : Rows) (q : Question) (rows : List Filter) where
   abbrev answersAt : ℕ → Bool
   answersAt j = answersOf s q (rowOf rows j)
+
+  pub search-begins : searchFrom s q rows (q .from) ≡ searchOf s q rows
+  unfolding searchOf
+  search-begins = refl
+
+  pub search-found : (i : ℕ) → i < q .to → answersOf s q (rowOf rows i) ≡ true → searchFrom s q rows i ≡ i
+  search-found = first-found answersAt (q .to)
+
+  pub search-next : (i : ℕ) → i < q .to → answersOf s q (rowOf rows i) ≡ false → searchFrom s q rows i ≡ searchFrom s q rows (i + 1)
+  search-next = first-next answersAt (q .to)
+
+  pub search-over : (i : ℕ) → q .to ≤ i → searchFrom s q rows i ≡ i
+  search-over = first-over answersAt (q .to)
+
+  -- ---- it finds the first row that answers, and nothing else
 
   pub search-from : q .from ≤ searchOf s q rows
   unfolding searchOf

@@ -1,12 +1,14 @@
 // The filter table: what a row says, which rows count as empty, and the first row that a question is about (01, kind 2 and A frame's
 // path, step 1). The table is lent; place n is filter n's.
 use bank::Words;
+ghost use mathlib.Core.Bool.{cond};
 ghost use mathlib.Core.Path.{_≡_};
 ghost use Prim.Native.Nat.{_+_};
 ghost use lib.Dec.{ltb};
 ghost use lib.ListN.{set};
 ghost use Rattle.bank.specs.Rows.{rowsOf};
 ghost use Rattle.filter.specs.Filter.{noRow, inRangeOf, isFilterOf, missingOf, tooSmallOf, countsOf, fitsOf, rowOf, answersOf, searchOf};
+ghost use Rattle.filter.specs.Seek.{nearOf, passableOf, seekOf};
 
 // A row, as document 01's kind 2 has it but for the identifier, which is the row's place. All numbers: whatever a caller leaves in the
 // table is a row. A row of zeros is empty.
@@ -53,15 +55,56 @@ pub fn search(table: &[Filter], bank: &Words, q: Question) -> usize
     ensures { λ r. ⌜ r ≡ searchOf (rowsOf (now (bank .entry))) q (now (table .entry)) ⌝ }
 {
     let to = q.to;
-    let mut i = q.from;
+    let mut i = seek(table, q, q.from);
     while i < to {
         let row = row_at(table, i);
         if answers(row, bank, q) {
             return i;
         }
+        let next = seek(table, q, i + 1);
+        i = next;
+    }
+    i
+}
+
+// The first place from `from` on that a frame's handle does not rule out: a search passes most rows over here, after two loads each.
+fn seek(table: &[Filter], q: Question, from: usize) -> usize
+    ensures { λ r. ⌜ r ≡ seekOf q (now (table .entry)) from ⌝ }
+{
+    let end = passable(q, table.len());
+    let mut i = from;
+    while i < end {
+        let row = row_at(table, i);
+        if near(row, q.handle) {
+            return i;
+        }
         i += 1;
     }
     i
+}
+
+// Up to which place of a table of `rows` rows are passed over.
+fn passable(q: Question, rows: usize) -> usize
+    ensures { λ r. ⌜ r ≡ passableOf q rows ⌝ }
+{
+    let asks = q.asks;
+    match asks {
+        Asks::Fits => lesser(q.to, rows),
+        Asks::Missing => 0,
+        Asks::TooSmall => 0,
+    }
+}
+
+fn lesser(n: usize, m: usize) -> usize
+    ensures { λ r. ⌜ r ≡ cond (ltb n m) n m ⌝ }
+{
+    if n < m { n } else { m }
+}
+
+fn near(row: Filter, handle: u32) -> bool
+    ensures { λ r. ⌜ r ≡ nearOf handle row ⌝ }
+{
+    (row.handle == handle) | (row.any_handle == 1)
 }
 
 // The row at a place; past the table's end, the empty one.
@@ -105,16 +148,13 @@ pub fn answers(row: Filter, bank: &Words, q: Question) -> bool
     }
 }
 
-// Whether handle and priority of a frame match the row's. Handle and any-handle are one branch, before the priority is looked at: a
-// search leaves most rows after two loads.
+// Whether handle and priority of a frame match the row's.
 // Ruled out: any-handle taken for handle 0; priority 8 taken for a priority.
 pub fn fits(row: Filter, handle: u32, priority: u8) -> bool
     ensures { λ r. ⌜ r ≡ fitsOf handle priority row ⌝ }
 {
-    if (row.handle != handle) & (row.any_handle != 1) {
-        return false;
-    }
-    (row.priority == 8) | (row.priority == priority)
+    ((row.any_handle == 1) | (row.handle == handle))
+        & ((row.priority == 8) | (row.priority == priority))
 }
 
 // Whether a row counts after start; any other counts as empty.
