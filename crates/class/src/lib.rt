@@ -27,8 +27,7 @@ pub fn traffic_class(priority: u8, classes: u8) -> Class
     ensures { λ r. ⌜ r ≡ trafficClassOf priority classes ⌝ }
 {
     if (priority <= 7) & (1 <= classes) & (classes <= 8) {
-        let row = CLASSES[priority as usize];
-        Class::Of(row[(classes - 1) as usize])
+        Class::Of(CLASSES[priority as usize][(classes - 1) as usize])
     } else {
         Class::Refused
     }

@@ -11,20 +11,20 @@ range : (c : tie.Then1) → InTable (c .before .args .priority) (c .before .args
 unfolding _and_
 range c = in-table _ _ (c .if1 .taken)
 
-mul-row : tie.Need-mul-row
-mul-row c = search needs
+sub-t19 : tie.Need-sub-t19
+sub-t19 c = let k = range c in omega arith
 
-array-copy-out-row : tie.Need-array-copy-out-row
-array-copy-out-row c = let k = range c in omega arith
+cast-t20 : tie.Need-cast-t20
+cast-t20 c = search needs
 
-sub-t24 : tie.Need-sub-t24
-sub-t24 c = let k = range (c .before) in omega arith
+mul-t21 : tie.Need-mul-t21
+mul-t21 c = search needs
 
-cast-t19 : tie.Need-cast-t19
-cast-t19 c = search needs
+index-1-t26 : tie.Need-index-1-t26
+index-1-t26 c = let k = range c in omega arith
 
-array-read-t27 : tie.Need-array-read-t27
-array-read-t27 c = let k = range (c .before) in omega arith
+index-2-t26 : tie.Need-index-2-t26
+index-2-t26 c = let k = range c in omega arith
 
 returns : tie.Need-returns
 unfolding trafficClassOf rows _and_
@@ -37,4 +37,4 @@ returns-2 c = rw (c .if1 .left)
 pub traffic-class-spec : {M : Type 1} → statement M
 traffic-class-spec =
     tie.close
-    (tie.spec mul-row array-copy-out-row sub-t24 cast-t19 array-read-t27 returns returns-2)
+    (tie.spec sub-t19 cast-t20 mul-t21 index-1-t26 index-2-t26 returns returns-2)
