@@ -50,7 +50,7 @@ pub struct Question {
 }
 
 // The first row that answers, in ascending identifier; where none does, the place after the last one asked.
-// Ruled out: the last row that answers; a row before `from` or at `to`.
+// Ruled out: the last row that answers; a row for any handle passed over.
 pub fn search(table: &[Filter], bank: &Words, q: Question) -> usize
     ensures { λ r. ⌜ r ≡ searchOf (rowsOf (now (bank .entry))) q (now (table .entry)) ⌝ }
 {
@@ -108,7 +108,7 @@ fn near(row: Filter, handle: u32) -> bool
 }
 
 // The row at a place; past the table's end, the empty one.
-// Ruled out: the row of another filter; a row of the memory past the end.
+// Ruled out: the row of another filter; a row that is used past the table's end.
 pub fn row_at(table: &[Filter], i: usize) -> Filter
     ensures { λ r. ⌜ r ≡ rowOf (now (table .entry)) i ⌝ }
 {

@@ -13,7 +13,7 @@ ghost use Rattle.bank.specs.Rows.{rowsOf};
 ghost use Rattle.text.specs.Page.{page, putOf, written};
 ghost use Rattle.text.specs.Lines.{digitsOf, pairOf, passLineOf, dropLineOf, endLineOf, refusedLineOf, itemOf, filterItemsOf, gateItemsOf, meterItemOf, portItemOf, reportOf, filtersOf, gatesOf, metersOf, portsOf, timeOf};
 
-// Ruled out: an octet stored elsewhere; the place not moved on.
+// Ruled out: another octet; the place not moved on.
 pub fn put_octet(out: &mut [u8], at: usize, octet: u8) -> usize
     ensures { λ r. ⌜ page (now (out .exit)) r ≡ putOf (page (now (out .entry)) at) octet ⌝ }
 {
@@ -24,7 +24,7 @@ pub fn put_octet(out: &mut [u8], at: usize, octet: u8) -> usize
     at
 }
 
-// Ruled out: the octets in another order; the last one left out.
+// Ruled out: the first one over and over; all at one place.
 pub fn put_octets(out: &mut [u8], at: usize, octets: &[u8]) -> usize
     ensures { λ r. ⌜ page (now (out .exit)) r ≡ written (page (now (out .entry)) at) (now (octets .entry)) ⌝ }
 {
@@ -38,7 +38,7 @@ pub fn put_octets(out: &mut [u8], at: usize, octets: &[u8]) -> usize
 }
 
 // In decimal, with no leading zeros.
-// Ruled out: the digits in reverse; a leading zero.
+// Ruled out: a digit twice; the first digit left out.
 pub fn put_number(out: &mut [u8], at: usize, n: u64) -> usize
     ensures { λ r. ⌜ page (now (out .exit)) r ≡ written (page (now (out .entry)) at) (digitsOf n) ⌝ }
 {
@@ -61,7 +61,7 @@ fn put_pair(out: &mut [u8], at: usize, n: u64) -> usize
 }
 
 // The line of an arrival that passes.
-// Ruled out: priority and class changed over; a time of 0 where there is none.
+// Ruled out: the class for the priority; a time of 0 where there is none.
 pub fn put_pass(out: &mut [u8], at: usize, arrival: u64, p: Pass) -> usize
     ensures { λ r. ⌜ page (now (out .exit)) r ≡ written (page (now (out .entry)) at) (passLineOf arrival p) ⌝ }
 {
@@ -88,7 +88,7 @@ fn put_time(out: &mut [u8], at: usize, timed: bool, time: u64) -> usize
 }
 
 // The line of an arrival that is dropped.
-// Ruled out: a drop told as a pass; the number of another reason.
+// Ruled out: a drop told as a pass; the reason before the arrival.
 pub fn put_drop(out: &mut [u8], at: usize, arrival: u64, d: Drop) -> usize
     ensures { λ r. ⌜ page (now (out .exit)) r ≡ written (page (now (out .entry)) at) (dropLineOf arrival d) ⌝ }
 {
