@@ -10,7 +10,12 @@ use Rattle.verdict.specs.declared.Verdict.{Verdict}
 use Rattle.verdict.specs.declared.Answer.{Answer}
 use Rattle.verdict.specs.Told.{Told, told}
 use Rattle.setup.specs.Setup.{Listed, listed}
-use Rattle.stage.specs.Take.{Bridge, Took, took, takeOf}
+use Rattle.stage.specs.Take.{Bridge, Took, bridge, took, takeOf}
+use Rattle.transomrib.specs.declared.Reply.{Reply}
+use Rattle.transomrib.specs.Reply.{Replied, replied}
+use Rattle.text.specs.Page.{Page, page}
+use Rattle.run.specs.declared.Progress.{Progress}
+use Rattle.run.specs.Run.{Ran, ran}
 use Rattle.promises.specs.Runs.{Call, runOf, answersOf}
 
 -- `r ≡ fooOf ..`: what is given by value, and a table, a scheduler or the view of a part that is lent (`now (table .exit) ≡ ..`, `viewOf r ≡ ..`)
@@ -33,16 +38,37 @@ one-listed meaning ws ws′ lists lists′ v v′ same e e′ = (
   (one-value (meaning .lists) lists lists′ (ap (λ (t : Listed). t .lists) e) (ap (λ (t : Listed). t .lists) e′), one-value (meaning .verdict) v v′ (ap (λ (t : Listed). t .verdict) e) (ap (λ (t : Listed). t .verdict) e′)),
 )
 
--- `took (now (table .exit)) (rowsOf (now (bank .exit))) (now (lists .exit)) a ≡ takeOf ..`: a call. The table, every word of the bank, every octet
--- of the lists and the answer are determined
+-- what a call leaves of a bridge: the table, every word of the bank, every octet of the lists
+one-bridge : (meaning : Bridge) (table table′ : List Filter) (ws ws′ lists lists′ : List ℕ) → length ws ≡ length ws′
+    → bridge table (rowsOf ws) lists ≡ meaning → bridge table′ (rowsOf ws′) lists′ ≡ meaning → (table ≡ table′) × ((ws ≡ ws′) × (lists ≡ lists′))
+one-bridge meaning table table′ ws ws′ lists lists′ same e e′ = (
+  one-value (meaning .table) table table′ (ap (λ (b : Bridge). b .table) e) (ap (λ (b : Bridge). b .table) e′),
+  (one-bank (meaning .bank) ws ws′ same (ap (λ (b : Bridge). b .bank) e) (ap (λ (b : Bridge). b .bank) e′), one-value (meaning .lists) lists lists′ (ap (λ (b : Bridge). b .lists) e) (ap (λ (b : Bridge). b .lists) e′)),
+)
+
+-- `took (now (table .exit)) (rowsOf (now (bank .exit))) (now (lists .exit)) a ≡ takeOf ..`: a call
 pub take-has-one-answer : (b : Bridge) (c : Call) (table table′ : List Filter) (ws ws′ lists lists′ : List ℕ) (a a′ : Answer) → length ws ≡ length ws′
-    → took table (rowsOf ws) lists a ≡ takeOf b c → took table′ (rowsOf ws′) lists′ a′ ≡ takeOf b c → (table ≡ table′) × ((ws ≡ ws′) × ((lists ≡ lists′) × (a ≡ a′)))
-take-has-one-answer b c table table′ ws ws′ lists lists′ a a′ same e e′ = (
-  one-value (takeOf b c .after .table) table table′ (ap (λ (o : Took). o .after .table) e) (ap (λ (o : Took). o .after .table) e′),
-  (
-    one-bank (takeOf b c .after .bank) ws ws′ same (ap (λ (o : Took). o .after .bank) e) (ap (λ (o : Took). o .after .bank) e′),
-    (one-value (takeOf b c .after .lists) lists lists′ (ap (λ (o : Took). o .after .lists) e) (ap (λ (o : Took). o .after .lists) e′), one-value (takeOf b c .answer) a a′ (ap (λ (o : Took). o .answer) e) (ap (λ (o : Took). o .answer) e′)),
-  ),
+    → took table (rowsOf ws) lists a ≡ takeOf b c → took table′ (rowsOf ws′) lists′ a′ ≡ takeOf b c → ((table ≡ table′) × ((ws ≡ ws′) × (lists ≡ lists′))) × (a ≡ a′)
+take-has-one-answer b c table table′ ws ws′ lists lists′ a a′ same e e′ =
+    (one-bridge (takeOf b c .after) table table′ ws ws′ lists lists′ same (ap (λ (o : Took). o .after) e) (ap (λ (o : Took). o .after) e′), one-value (takeOf b c .answer) a a′ (ap (λ (o : Took). o .answer) e) (ap (λ (o : Took). o .answer) e′))
+
+-- `replied .. ≡ repliedOf ..`: a call from C
+pub one-reply : (meaning : Replied) (table table′ : List Filter) (ws ws′ lists lists′ : List ℕ) (r r′ : Reply) → length ws ≡ length ws′
+    → replied table (rowsOf ws) lists r ≡ meaning → replied table′ (rowsOf ws′) lists′ r′ ≡ meaning → ((table ≡ table′) × ((ws ≡ ws′) × (lists ≡ lists′))) × (r ≡ r′)
+one-reply meaning table table′ ws ws′ lists lists′ r r′ same e e′ =
+    (one-bridge (meaning .after) table table′ ws ws′ lists lists′ same (ap (λ (o : Replied). o .after) e) (ap (λ (o : Replied). o .after) e′), one-value (meaning .reply) r r′ (ap (λ (o : Replied). o .reply) e) (ap (λ (o : Replied). o .reply) e′))
+
+-- `page (now (out .exit)) r ≡ written ..`: a line, with every octet of the buffer and the place after the line
+pub one-page : (meaning : Page) (out out′ : List ℕ) (r r′ : ℕ) → page out r ≡ meaning → page out′ r′ ≡ meaning → (out ≡ out′) × (r ≡ r′)
+one-page meaning out out′ r r′ e e′ =
+    (one-value (meaning .octets) out out′ (ap (λ (p : Page). p .octets) e) (ap (λ (p : Page). p .octets) e′), one-value (meaning .filled) r r′ (ap (λ (p : Page). p .filled) e) (ap (λ (p : Page). p .filled) e′))
+
+-- `ran .. ≡ runOf ..`: a piece of input
+pub one-run : (meaning : Ran) (table table′ : List Filter) (ws ws′ lists lists′ out out′ : List ℕ) (p p′ : Progress) → length ws ≡ length ws′
+    → ran table (rowsOf ws) lists out p ≡ meaning → ran table′ (rowsOf ws′) lists′ out′ p′ ≡ meaning → ((table ≡ table′) × ((ws ≡ ws′) × (lists ≡ lists′))) × ((out ≡ out′) × (p ≡ p′))
+one-run meaning table table′ ws ws′ lists lists′ out out′ p p′ same e e′ = (
+  one-bridge (meaning .after) table table′ ws ws′ lists lists′ same (ap (λ (o : Ran). o .after) e) (ap (λ (o : Ran). o .after) e′),
+  (one-value (meaning .out) out out′ (ap (λ (o : Ran). o .out) e) (ap (λ (o : Ran). o .out) e′), one-value (meaning .progress) p p′ (ap (λ (o : Ran). o .progress) e) (ap (λ (o : Ran). o .progress) e′)),
 )
 
 -- ---- every history. Calls one after another, each of which meets the contract on the bridge that the one before it left
