@@ -1,7 +1,11 @@
 // ns a frame through a gate: the proved step beside plain Rust of the same rules, in one run.
 // Eight entries, a frame in every interval; the same octets, gate and frames for both. Before that, both answer two million random frames alike.
+mod random;
+mod rounds;
+
+use random::Random;
+use rounds::{race, round};
 use std::hint::black_box;
-use std::time::Instant;
 
 extern "C" {
     // crates/bench_gate: the list as pointer and length, the gate as nine words.
@@ -104,15 +108,6 @@ fn octets() -> Vec<u8> {
 // Open, IPV null, no blocks, base time 5000.
 const FRESH: [u64; 9] = [1, 8, 0, 0, 5000, 0, 0, 0, 0];
 
-struct Random(u64);
-
-impl Random {
-    fn below(&mut self, n: u64) -> u64 {
-        self.0 = self.0.wrapping_mul(6364136223846793005).wrapping_add(1442695040888963407);
-        (self.0 >> 33) % n
-    }
-}
-
 // One frame in every interval, at a place in it and of a length that vary.
 fn frames(count: usize) -> Vec<(u64, u64)> {
     let mut random = Random(1);
@@ -154,29 +149,15 @@ fn agree(runs: usize) {
     }
 }
 
-// ns a frame over all frames some times, or the best so far where that was less.
-fn least(step: impl Fn(&mut [u64; 9], u64, u64) -> u64, frames: &[(u64, u64)], best: f64) -> f64 {
-    const ROUNDS: usize = 10;
-    let mut gate = FRESH;
-    let begun = Instant::now();
-    let mut sum = 0;
-    for _ in 0..ROUNDS {
-        for &(time, msdu) in frames {
-            sum += step(&mut gate, time, msdu);
-        }
-    }
-    black_box(sum);
-    best.min(begun.elapsed().as_nanos() as f64 / (ROUNDS * frames.len()) as f64)
-}
-
 fn main() {
     let list = octets();
     let frames = frames(4096);
     agree(100_000);
-    let (mut ns, mut plain_ns) = (f64::MAX, f64::MAX);
-    for _ in 0..500 {
-        ns = least(|gate, time, msdu| proved(black_box(&list), gate, time, msdu), &frames, ns);
-        plain_ns = least(|gate, time, msdu| plain(black_box(&list), gate, time, msdu), &frames, plain_ns);
-    }
-    println!("gate step, 8 entries: {ns:.1} ns, plain Rust {plain_ns:.1} ns, ratio {:.2} (at most 1.30)", ns / plain_ns);
+    println!("ns a frame, best of 40 rounds of 4096 frames, a frame in every interval; ratio proved / plain Rust");
+    race(
+        "eight entries",
+        "plain",
+        || round(&frames, FRESH, |gate, _, &(time, msdu)| proved(black_box(&list), gate, time, msdu)),
+        || round(&frames, FRESH, |gate, _, &(time, msdu)| plain(black_box(&list), gate, time, msdu)),
+    );
 }

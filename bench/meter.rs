@@ -3,10 +3,10 @@
 // Before anything is timed, a million frames of every kind are compared, answers and states.
 // `bench/run.sh meter` builds and runs it.
 mod random;
+mod rounds;
 
 use random::Random;
-use std::hint::black_box;
-use std::time::Instant;
+use rounds::{race, round};
 
 extern "C" {
     fn bench_meter_step(words: *mut [u64; 16], time: u64, msdu: u32, drop_eligible: bool) -> u64;
@@ -125,13 +125,7 @@ fn compare(frames: u64) -> [u64; 10] {
         let mut w = m.words();
         let mut time = m.last.min(TIMES);
         for _ in 0..64 {
-            let step = match r.below(12) {
-                0 => 0,
-                1 => r.below(TIMES),
-                2 => r.below(1 << 40),
-                3 => r.below(1 << 31),
-                _ => r.below(20_000),
-            };
+            let step = r.spell(TIMES);
             time = if r.below(200) == 0 { time.wrapping_sub(step) } else { time.saturating_add(step).min(TIMES + r.below(2) * r.below(2)) };
             let msdu = match r.below(40) { 0 => 2001, 1 => u32::MAX, 2 => 2000, 3 => 0, _ => r.below(2000) as u32 };
             let eligible = r.below(3) == 0;
@@ -185,22 +179,11 @@ fn main() {
         ("a frame every four seconds ", true, true, 8_000_000_000),
     ] {
         let (meters, frames) = load(coupling, aware, spell);
-        let (mut best_a, mut best_b, mut sum_a, mut sum_b) = (f64::MAX, f64::MAX, 0, 0);
-        for _ in 0..40 {
-            let mut words: Vec<[u64; 16]> = meters.iter().map(Meter::words).collect();
-            let start = Instant::now();
-            for (i, &(time, msdu, eligible)) in frames.iter().enumerate() {
-                sum_a += black_box(proved(&mut words[i % 16], time, msdu, eligible));
-            }
-            best_a = best_a.min(start.elapsed().as_nanos() as f64 / frames.len() as f64);
-            let mut plain = meters.clone();
-            let start = Instant::now();
-            for (i, &(time, msdu, eligible)) in frames.iter().enumerate() {
-                sum_b += black_box(plain[i % 16].step(time, msdu, eligible));
-            }
-            best_b = best_b.min(start.elapsed().as_nanos() as f64 / frames.len() as f64);
-        }
-        assert!(sum_a == sum_b);
-        println!("{name} proved {best_a:.2}  plain {best_b:.2}  ratio {:.2}", best_a / best_b);
+        race(
+            name,
+            "plain",
+            || round(&frames, meters.iter().map(Meter::words).collect::<Vec<_>>(), |words, i, &(time, msdu, eligible)| proved(&mut words[i % 16], time, msdu, eligible)),
+            || round(&frames, meters.clone(), |plain, i, &(time, msdu, eligible)| plain[i % 16].step(time, msdu, eligible)),
+        );
     }
 }

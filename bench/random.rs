@@ -1,4 +1,5 @@
-// A small generator of numbers, so that every run of a benchmark sees the same frames.
+// A small generator of numbers, so that every run of a benchmark sees the same frames. No benchmark uses all of it.
+#![allow(dead_code)]
 pub struct Random(pub u64);
 
 impl Random {
@@ -15,5 +16,16 @@ impl Random {
 
     pub fn one_of(&mut self, list: &[u64]) -> u64 {
         list[self.below(list.len() as u64) as usize]
+    }
+
+    // A spell between two frames: mostly short, now and then none, or as long as `most`.
+    pub fn spell(&mut self, most: u64) -> u64 {
+        match self.below(12) {
+            0 => 0,
+            1 => self.below(most),
+            2 => self.below(1 << 40),
+            3 => self.below(1 << 31),
+            _ => self.below(20_000),
+        }
     }
 }

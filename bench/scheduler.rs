@@ -3,10 +3,10 @@
 // Before anything is timed, a million frames of every kind are compared, answers and states.
 // `bench/run.sh scheduler` builds and runs it.
 mod random;
+mod rounds;
 
 use random::Random;
-use std::hint::black_box;
-use std::time::Instant;
+use rounds::{race, round};
 
 extern "C" {
     fn bench_scheduler_step(words: *mut [u64; 8], residence: u64, arrival: u64, length: u32) -> u64;
@@ -90,13 +90,7 @@ fn compare(frames: u64) -> [u64; 9] {
         let mut time = s.last.min(TIMES);
         let residence = r.one_of(&[1, 1000, 10_000, 1_000_000, 1_000_000_000, 0, 1_000_000_001]);
         for _ in 0..64 {
-            let step = match r.below(12) {
-                0 => 0,
-                1 => r.below(TIMES),
-                2 => r.below(1 << 40),
-                3 => r.below(1 << 31),
-                _ => r.below(20_000),
-            };
+            let step = r.spell(TIMES);
             time = time.saturating_add(step).min(TIMES + r.below(2) * r.below(2));
             let length = if s.burst == 0 { 0 } else { (r.below(2100) as u32).min(s.burst.saturating_add((r.below(40) == 0) as u32)) };
             let a = s.step(residence, time, length);
@@ -135,22 +129,11 @@ fn main() {
         ("a frame every four seconds ", 1_000_000_000, 8_000_000_000),
     ] {
         let (schedulers, frames) = load(rate, spell);
-        let (mut best_a, mut best_b, mut sum_a, mut sum_b) = (f64::MAX, f64::MAX, 0, 0);
-        for _ in 0..40 {
-            let mut words: Vec<[u64; 8]> = schedulers.iter().map(Scheduler::words).collect();
-            let start = Instant::now();
-            for (i, &(time, length)) in frames.iter().enumerate() {
-                sum_a += black_box(proved(&mut words[i % 32], 10_000_000, time, length));
-            }
-            best_a = best_a.min(start.elapsed().as_nanos() as f64 / frames.len() as f64);
-            let mut plain = schedulers.clone();
-            let start = Instant::now();
-            for (i, &(time, length)) in frames.iter().enumerate() {
-                sum_b += black_box(plain[i % 32].step(10_000_000, time, length));
-            }
-            best_b = best_b.min(start.elapsed().as_nanos() as f64 / frames.len() as f64);
-        }
-        assert!(sum_a == sum_b);
-        println!("{name} proved {best_a:.2}  plain {best_b:.2}  ratio {:.2}", best_a / best_b);
+        race(
+            name,
+            "plain",
+            || round(&frames, schedulers.iter().map(Scheduler::words).collect::<Vec<_>>(), |words, i, &(time, length)| proved(&mut words[i % 32], 10_000_000, time, length)),
+            || round(&frames, schedulers.clone(), |plain, i, &(time, length)| plain[i % 32].step(10_000_000, time, length)),
+        );
     }
 }
