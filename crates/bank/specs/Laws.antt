@@ -1,11 +1,11 @@
 -- The laws of the tables. For each way of writing: the view of what was written gives it back (`-same`), and what it does not write is
 -- as before for every index (`-keeps-`). For each view: a store into any other row leaves it (`-frame`); that the rows of two
 -- tables are never the same is plain from their numbers.
-use Prim.Native.Nat.{ℕ, _+_, _*_, _%_, _^_, _<_, min}
+use Prim.Native.Nat.{ℕ, _%_, _^_, _<_, min}
 use mathlib.Core.Path.{_≡_, refl, ap, _∙_}
 use mathlib.Core.Logic.{_≢_}
-use mathlib.Core.List.{List, [], _∷_}
-use mathlib.Core.Bool.{Bool, true, false, not}
+use mathlib.Core.List.{List}
+use mathlib.Core.Bool.{Bool, true, false}
 use native.Mathlib.Omega.{arith}
 use mir.Val.{boolByte}
 use Rattle.gate.specs.declared.Gate.{Gate}

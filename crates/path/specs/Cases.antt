@@ -22,8 +22,8 @@ use Rattle.filter.specs.declared.Filter.{Filter}
 use Rattle.verdict.specs.declared.Drop.the-variants as drop
 use Rattle.verdict.specs.declared.Verdict.{Verdict}
 use Rattle.verdict.specs.declared.Verdict.the-variants.{Refused, Dropped}
-use Rattle.verdict.specs.Told.{Told, told}
-use Rattle.path.specs.Path.{choose, passOf, sduFailed, sduPassed, offeredOf, scheduledBy, scheduledOf, colouredOf, meteredBy, meteredOf, reachedOf, gatedBy, gatedOf, policedOf, arrivalOf}
+use Rattle.verdict.specs.Told.{told}
+use Rattle.path.specs.Path.{passOf, sduFailed, sduPassed, offeredOf, scheduledBy, scheduledOf, colouredOf, meteredBy, meteredOf, reachedOf, gatedBy, gatedOf, policedOf, arrivalOf}
 
 module _ (s : Rows) (a : ArrivalRecord) (row : Filter) (priority mark : ℕ) where
   pub scheduled-none : row .scheduler ≡ 255 → scheduledOf s a row priority mark ≡ told s (passOf s priority mark false 0)

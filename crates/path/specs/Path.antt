@@ -9,12 +9,10 @@ use Rattle.bucket.specs.declared.Octets.{Octets}
 use Rattle.class.specs.declared.Class.{Class}
 use Rattle.class.specs.declared.Class.the-variants.{Of, Refused as NoClass}
 use Rattle.class.specs.Table.{trafficClassOf}
-use Rattle.gate.specs.declared.Gate.{Gate}
 use Rattle.gate.specs.declared.Stepped.{Stepped as GateStepped}
 use Rattle.gate.specs.declared.Outcome.{Outcome as GateOutcome}
 use Rattle.gate.specs.declared.Outcome.the-variants.{Passed as Open, Blocked, Closed, TooManyOctets}
 use Rattle.gate.specs.Meaning.{entriesOf, stepOf as gateStepOf}
-use Rattle.meter.specs.declared.Meter.{Meter}
 use Rattle.meter.specs.declared.Metered.{Metered}
 use Rattle.meter.specs.declared.Outcome.{Outcome as MeterOutcome}
 use Rattle.meter.specs.declared.Outcome.the-variants.{Green, Yellow, YellowDropped, Red, OutOfRange, TooEarly}

@@ -1,6 +1,6 @@
 -- The body of a record as the very part of the input that follows its kind (01, Records): which octets, and where they lie.
 use Prim.Native.Nat.{ℕ, _+_, _-_}
-use mathlib.Core.Bool.{Bool, _&&_, cond}
+use mathlib.Core.Bool.{_&&_, cond}
 use mathlib.Core.List.{List}
 use denote.Ref.{RefT, now}
 use lib.Dec.{leb}

@@ -3,7 +3,7 @@ use Prim.Native.Nat.{ℕ, zero, suc, _+_, _-_, _*_, _≤_, _<_}
 use mathlib.Core.Bool.{Bool, true, false}
 use mathlib.Core.List.{List, [], _∷_}
 use mathlib.Core.Option.{Option, none, some}
-use mathlib.Core.Path.{_≡_, refl, sym, ap, _∙_}
+use mathlib.Core.Path.{_≡_, refl, sym, _∙_}
 use native.Mathlib.Omega.{arith}
 use native.Mathlib.Nat.{add-zero}
 use borrow.Author.Tests.{le-leb, lt-leb}
@@ -13,7 +13,7 @@ use Rattle.record.specs.declared.Refusal.the-variants.{CutShort, Unknown
 use Rattle.record.specs.declared.Reading.{Reading}
 use Rattle.record.specs.declared.Reading.the-variants.{Refused}
 use Rattle.record.specs.Kinds.{Kind, port, filter, gate, gate-entry, meter, group, scheduler, start, arrival, clear, kinds, kindOf, numberAt}
-use Rattle.record.specs.Read.{lengthOf, inTurnOf, wholeOf, lengthIn, wholeIn, readAs, readOf}
+use Rattle.record.specs.Read.{lengthOf, inTurnOf, lengthIn, wholeIn, readAs, readOf}
 
 -- a record of a kind has an octet at least
 pub length-positive : (k : Kind) → 1 ≤ lengthOf k

@@ -1,7 +1,7 @@
 -- The ten kinds of record, as the table of document 01 (Records) has them: the one definition of each kind's fields, widths and ranges.
 -- A body's length, its decoding, its encoding and the range test all follow from it.
 use Prim.Native.Nat.{ℕ, zero, suc, _+_, _*_, _/_, _%_}
-use mathlib.Core.Bool.{Bool, true, false, _&&_, _||_, not}
+use mathlib.Core.Bool.{Bool, true, _&&_, _||_, not}
 use mathlib.Core.List.{List, [], _∷_, _++_}
 use mathlib.Core.Option.{Option, none, some}
 use lib.Dec.{leb, eqb}

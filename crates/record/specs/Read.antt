@@ -1,7 +1,7 @@
 -- What reading an octet string means: the refusal that document 01 gives, or the record and the octets it uses. Refusals are tried in the
 -- order of document 01 (Refusal numbers): no octet 1, unknown kind 2, body cut short 1, out of turn 4, out of range 3.
-use Prim.Native.Nat.{ℕ, suc, _+_}
-use mathlib.Core.Bool.{Bool, true, false, not, cond}
+use Prim.Native.Nat.{ℕ, _+_}
+use mathlib.Core.Bool.{Bool, not, cond}
 use mathlib.Core.List.{List, [], _∷_}
 use mathlib.Core.Option.{Option, none, some}
 use lib.Dec.{leb}

@@ -10,7 +10,7 @@ use Rattle.filter.specs.declared.Filter.{Filter}
 use Rattle.verdict.specs.declared.Verdict.{Verdict}
 use Rattle.verdict.specs.declared.Verdict.the-variants.{Refused, Taken, Passed, Dropped}
 use Rattle.verdict.specs.declared.Answer.{Answer}
-use Rattle.stage.specs.Take.{Bridge, bridge, Took, takeOf}
+use Rattle.stage.specs.Take.{Bridge, bridge, takeOf}
 use Rattle.text.specs.Page.{Page, page, written}
 use Rattle.text.specs.Lines.{passLineOf, dropLineOf}
 use Rattle.run.specs.declared.Progress.{Progress}

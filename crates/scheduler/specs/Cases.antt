@@ -1,17 +1,15 @@
 -- The three cases of `stepOf`, each from the facts that a step has in hand; and that what an admitted frame takes is there.
-use Prim.Native.Nat.{ℕ, _+_, _-_, _*_, _≤_, _<_, max}
-use mathlib.Core.Bool.{Bool, true, false}
-use mathlib.Core.Path.{_≡_, refl, sym, ap, _∙_}
+use Prim.Native.Nat.{ℕ, _+_, _-_, _≤_, _<_}
+use mathlib.Core.Bool.{true, false}
+use mathlib.Core.Path.{_≡_, _∙_}
 use native.Mathlib.Omega.{arith}
 use borrow.Author.Tests.{le-leb, lt-leb}
-use lib.Dec.{leb}
 use Rattle.bucket.specs.Bucket.{grains, grown, waitFor}
 use Rattle.bucket.specs.Laws.{wait-enough}
 use Rattle.bucket.specs.declared.Octets.{Octets}
 use Rattle.scheduler.specs.declared.Scheduler.{Scheduler}
-use Rattle.scheduler.specs.declared.Stepped.{Stepped}
 use Rattle.scheduler.specs.declared.Outcome.the-variants.{Admitted, Dropped, Refused}
-use Rattle.scheduler.specs.Step.{stepOf, decided, spent, eligibleOf, pick}
+use Rattle.scheduler.specs.Step.{stepOf, decided, eligibleOf}
 use Rattle.scheduler.specs.Range.{testOf, Ranged}
 
 module _ (s : Scheduler) (group residence arrival : ℕ) (length : Octets) where

@@ -1,13 +1,12 @@
 -- A larger burst is never worse, and a scheduler keeps itself in range.
-use Prim.Native.Nat.{ℕ, _+_, _-_, _*_, _≤_, _<_, _^_, max}
+use Prim.Native.Nat.{ℕ, _+_, _-_, _≤_, _^_}
 use mathlib.Core.Bool.{true}
-use mathlib.Core.Path.{_≡_, refl, sym, subst}
+use mathlib.Core.Path.{_≡_, refl}
 use native.Mathlib.Omega.{arith}
 use Rattle.bucket.specs.Bucket.{grains, grown, waitFor}
 use Rattle.bucket.specs.Laws.{Above, above-wait, above-taken}
 use Rattle.bucket.specs.declared.Octets.{Octets}
 use Rattle.scheduler.specs.declared.Scheduler.{Scheduler}
-use Rattle.scheduler.specs.declared.Stepped.{Stepped}
 use Rattle.scheduler.specs.declared.Outcome.the-variants.{Admitted}
 use Rattle.scheduler.specs.Step.{stepOf, spent, eligibleOf}
 use Rattle.scheduler.specs.Range.{testOf, Ranged, ranged, ranged-back}

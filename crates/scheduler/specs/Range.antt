@@ -1,9 +1,8 @@
 -- What a range check that held tells, and what follows for the numbers of a step.
-use Prim.Native.Nat.{ℕ, _+_, _-_, _*_, _≤_, _^_, max}
+use Prim.Native.Nat.{ℕ, _+_, _-_, _≤_, _^_}
 use mathlib.Core.Bool.{Bool, true, false}
-use mathlib.Core.Path.{_≡_, refl, sym}
+use mathlib.Core.Path.{_≡_, refl}
 use borrow.Author.Tests.{leb-true, le-leb}
-use lib.Dec.{leb}
 use Rattle.bucket.specs.declared.Octets.{Octets}
 use Rattle.scheduler.specs.declared.Scheduler.{Scheduler}
 use Rattle.bucket.specs.Bucket.{grains}

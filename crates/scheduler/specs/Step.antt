@@ -1,10 +1,8 @@
 -- What one step of a scheduler answers (01, Schedulers).
-use Prim.Native.Nat.{ℕ, _+_, _-_, _*_, _≤_, _^_, max}
+use Prim.Native.Nat.{ℕ, _+_, _-_, _^_, max}
 use mathlib.Core.Bool.{Bool, true, false}
-use mathlib.Core.Path.{_≡_}
 use lib.Dec.{leb}
 use Rattle.bucket.specs.Bucket.{grains, grown, waitFor}
-use Rattle.bucket.specs.declared.Rate.{Rate}
 use Rattle.bucket.specs.declared.Octets.{Octets}
 use Rattle.scheduler.specs.declared.Scheduler.{Scheduler}
 use Rattle.scheduler.specs.declared.Stepped.{Stepped}

@@ -2,8 +2,6 @@
 use Prim.Native.Nat.{ℕ}
 use mathlib.Core.List.{List, [], _∷_}
 use mathlib.Core.Path.{_≡_, refl}
-use Rattle.bucket.specs.declared.Rate.{Rate}
-use Rattle.bucket.specs.declared.Octets.{Octets}
 use Rattle.scheduler.specs.declared.Scheduler.{Scheduler}
 use Rattle.scheduler.specs.declared.Stepped.{Stepped}
 use Rattle.scheduler.specs.declared.Outcome.{Outcome}

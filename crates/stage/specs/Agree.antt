@@ -1,11 +1,10 @@
 -- The way a call is done (`Plan.antt`) gives what `takeOf` says.
-use Prim.Native.Nat.{ℕ, _≤_}
+use Prim.Native.Nat.{ℕ}
 use mathlib.Core.Bool.{Bool, true, false, cond}
 use mathlib.Core.List.{List}
 use mathlib.Core.Path.{_≡_, refl, sym, ap, _∙_}
 use native.Mathlib.Omega.{arith}
 use borrow.Author.Tests.{eq-eqb, ne-eqb}
-use lib.Dec.{eqb}
 use lib.ListN.{length, set}
 use lib.Seq.{set-out}
 use Rattle.record.specs.declared.Record.{Record}
@@ -17,20 +16,18 @@ use Rattle.record.specs.declared.Reading.the-variants as reading
 use Rattle.record.specs.Read.{readOf}
 use Rattle.bank.specs.Rows.{Rows}
 use Rattle.filter.specs.declared.Filter.{Filter}
-use Rattle.filter.specs.declared.Question.{Question}
 use Rattle.filter.specs.Filter.{isFilterOf, noRow, rowOf, searchOf}
 use Rattle.filter.specs.Search.{search-begins, search-over}
 use Rattle.verdict.specs.declared.Verdict.{Verdict}
 use Rattle.verdict.specs.declared.Verdict.the-variants.{Refused, Taken, Passed, Dropped}
 use Rattle.verdict.specs.declared.Answer.{Answer}
-use Rattle.verdict.specs.Told.{Told}
 use Rattle.path.specs.Path.{arrivalOf}
-use Rattle.setup.specs.Setup.{Listed, startOf, clearOf}
+use Rattle.setup.specs.Setup.{startOf, clearOf}
 use Rattle.stage.specs.declared.Plan.{Plan}
 use Rattle.stage.specs.declared.Done.{Done}
 use Rattle.stage.specs.Take.{Took, bridge, took, answered, refusedOf, filterOf, takenOf, readBy, startedOf, takeOf}
-use Rattle.stage.specs.Take.{banked as takes, listed as lists-too}
-use Rattle.stage.specs.Plan.{at, all, firstOf, secondOf, planBy, planOf, Settled, settled, kept, placedOf, banked, listed, takenBy, decidedOf}
+use Rattle.stage.specs.Take.{banked as takes}
+use Rattle.stage.specs.Plan.{at, firstOf, secondOf, planBy, planOf, Settled, settled, kept, placedOf, takenBy, decidedOf}
 
 -- a verdict is answered with itself
 pub answered-is : (used : ℕ) (v : Verdict) → answered used v ≡ record { used = answered used v .used; verdict = v }

@@ -1,7 +1,7 @@
 -- How a call is done: the record is read, the filter table is searched twice, a row is read, and the rest is decided without the table.
 -- `Agree.antt` says that this is `takeOf`.
 use Prim.Native.Nat.{ℕ}
-use mathlib.Core.Bool.{Bool, cond}
+use mathlib.Core.Bool.{cond}
 use mathlib.Core.List.{List}
 use Rattle.record.specs.declared.Record.{Record}
 use Rattle.record.specs.declared.Record.the-variants as kind

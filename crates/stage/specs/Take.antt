@@ -9,7 +9,6 @@ use lib.ListN.{length, set}
 use Rattle.record.specs.declared.Record.{Record}
 use Rattle.record.specs.declared.Record.the-variants as kind
 use Rattle.record.specs.declared.FilterRecord.{FilterRecord}
-use Rattle.record.specs.declared.ArrivalRecord.{ArrivalRecord}
 use Rattle.record.specs.declared.Refusal.{Refusal}
 use Rattle.record.specs.declared.Refusal.the-variants.{TableLength, SetUpAlready}
 use Rattle.record.specs.declared.Reading.{Reading}
@@ -20,7 +19,6 @@ use Rattle.bank.specs.Views.{isSet, stage}
 use Rattle.filter.specs.declared.Filter.{Filter}
 use Rattle.filter.specs.declared.Asks.{Asks}
 use Rattle.filter.specs.declared.Asks.the-variants.{Fits, Missing, TooSmall}
-use Rattle.filter.specs.declared.Question.{Question}
 use Rattle.filter.specs.Filter.{isFilterOf, rowOf, searchOf}
 use Rattle.verdict.specs.declared.Verdict.{Verdict}
 use Rattle.verdict.specs.declared.Verdict.the-variants.{Refused, Taken, Passed, Dropped}

@@ -1,6 +1,6 @@
 -- What the programs print, as octets (01, Worked figures, Program `ingress`).
 use Prim.Native.Nat.{ℕ, zero, suc, _+_, _/_, _%_}
-use mathlib.Core.Bool.{Bool, true, false, cond}
+use mathlib.Core.Bool.{Bool, cond}
 use mathlib.Core.List.{List, [], _∷_, _++_}
 use lib.Dec.{ltb, eqb}
 use mir.Val.{boolByte}

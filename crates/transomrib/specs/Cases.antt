@@ -1,6 +1,6 @@
 -- The cases of `inTable` and `chosenOf`, from the facts that the code has in hand.
 use Prim.Native.Nat.{ℕ, _≤_, _<_}
-use mathlib.Core.Path.{_≡_, refl}
+use mathlib.Core.Path.{_≡_}
 use mir.Val.{boolByte}
 use borrow.Author.Tests.{lt-ltb, le-ltb, ne-eqb}
 use Rattle.gate.specs.declared.Gate.{Gate}

@@ -6,10 +6,6 @@ use Rattle.bench_scheduler.specs.Words.{stepOf, putOf, toldBy}
 use borrow.Author.Needs.{needs}
 use Rattle.bench_scheduler.proofs.bench_scheduler_step.Statement.{statement}
 use Rattle.bench_scheduler.proofs.bench_scheduler_step.Tie as tie
-use Rattle.bench_scheduler.proofs.bench_scheduler_step.Reads as reads
-use Rattle.bench_scheduler.proofs.bench_scheduler_step.Lts as lts
-use Rattle.bench_scheduler.proofs.told.Reads as told-reads
-use Rattle.scheduler.proofs.step.Reads as step-reads
 
 -- src/lib.rt:22:20
 element-copy-out-step : tie.Need-element-copy-out-step

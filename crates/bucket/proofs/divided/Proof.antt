@@ -1,14 +1,12 @@
 -- `bucket::divided` meets its contract: three laws of `ceiling`, and one more than a quotient that leaves something fits.
 use mathlib.Core.Path.{sym}
-use Prim.Native.Nat.{_/_, _%_, _<_}
+use Prim.Native.Nat.{_/_}
 use borrow.Author.Needs.{needs}
 use native.Mathlib.Nat.{div-add-mod', mul-le-mul-left, mul-one}
 use native.Mathlib.Omega.{arith}
 use Rattle.bucket.specs.Laws.{ceiling-by-none, ceiling-whole, ceiling-part}
 use Rattle.bucket.proofs.divided.Statement.{statement}
 use Rattle.bucket.proofs.divided.Tie as tie
-use Rattle.bucket.proofs.divided.Reads as reads
-use Rattle.bucket.proofs.divided.Lts as lts
 
 -- src/lib.rt:87:9
 returns : tie.Need-returns

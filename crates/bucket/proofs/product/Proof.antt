@@ -1,5 +1,5 @@
 -- `bucket::product` meets its contract: below the two bounds the product fits, and where both are at least 2^32 it is above every `most`.
-use Prim.Native.Nat.{ℕ, _≤_, _<_}
+use Prim.Native.Nat.{_<_}
 use mathlib.Core.Bool.{Bool, true, false, _&&_}
 use mathlib.Core.Path.{_≡_, refl}
 use borrow.Author.Needs.{needs}
@@ -9,10 +9,6 @@ use native.Mathlib.Nat.{mul-le-mul, mul-comm}
 use native.Mathlib.Omega.{arith}
 use Rattle.bucket.proofs.product.Statement.{statement}
 use Rattle.bucket.proofs.product.Tie as tie
-use Rattle.bucket.proofs.product.Reads as reads
-use Rattle.bucket.proofs.product.Lts as lts
-use Rattle.bucket.proofs.lesser.Reads as lesser-reads
-use Rattle.bucket.proofs.tall.Reads as tall-reads
 
 first : (a b : Bool) → (a && b) ≡ true → a ≡ true
 first true b e = refl

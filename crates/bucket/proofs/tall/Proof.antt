@@ -6,9 +6,6 @@ use native.Mathlib.Nat.{mul-add, mul-assoc, mul-le-mul, div-add-mod'}
 use native.Mathlib.Omega.{arith}
 use Rattle.bucket.proofs.tall.Statement.{statement}
 use Rattle.bucket.proofs.tall.Tie as tie
-use Rattle.bucket.proofs.tall.Reads as reads
-use Rattle.bucket.proofs.tall.Lts as lts
-use Rattle.bucket.proofs.lesser.Reads as lesser-reads
 
 halves : (a x : ℕ) → a * x ≡ a * (x / 4_294_967_296) * 4_294_967_296 + a * (x % 4_294_967_296)
 halves a x =

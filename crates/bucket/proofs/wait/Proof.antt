@@ -2,10 +2,6 @@
 use borrow.Author.Needs.{needs}
 use Rattle.bucket.proofs.wait.Statement.{statement}
 use Rattle.bucket.proofs.wait.Tie as tie
-use Rattle.bucket.proofs.wait.Reads as reads
-use Rattle.bucket.proofs.wait.Lts as lts
-use Rattle.bucket.proofs.divided.Reads as divided-reads
-use Rattle.bucket.proofs.lacking.Reads as lacking-reads
 
 -- src/lib.rt:73:13
 lacking-requires : tie.Need-lacking-requires

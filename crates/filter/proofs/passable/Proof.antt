@@ -1,6 +1,6 @@
 -- `filter::passable` meets its contract: each arm is the case of `passable` that the question picks.
 -- Assumes nothing.
-use mathlib.Core.Path.{refl, sym, _∙_}
+use mathlib.Core.Path.{sym, _∙_}
 use borrow.Author.Needs.{needs}
 use Rattle.filter.specs.declared.Asks.the-variants.{Fits, Missing, TooSmall}
 use Rattle.filter.specs.Seek.{passable-asked}

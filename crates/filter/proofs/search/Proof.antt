@@ -56,6 +56,8 @@ use Rattle.filter.specs.Filter.{rowOf, answersOf, searchFrom, searchOf}
 use Rattle.filter.specs.Search.{search-begins, search-found, search-next, search-over}
 use Rattle.filter.specs.Seek.{seekOf, seek-from, sought}
 use Rattle.filter.proofs.Table.{is-true, is-false}
+use Rattle.filter.proofs.Asking as asking
+use Rattle.filter.proofs.Asking.{RowAt}
 use Rattle.filter.proofs.Filter as T
 use Rattle.filter.proofs.Filter.Laws as T′
 use Rattle.filter.proofs.Question as Q
@@ -96,9 +98,6 @@ stayed = (stay-dropped table-slot yes, (stay-dropped bank-slot yes, (stay-droppe
 
 module _ {M : Type 1} (𝓤 : URA M) (H : Heap 𝓤) (A : Atoms 𝓤) (mem : Memory → SProp 𝓤) (run : Routine → Fun 𝓤) where
   -- the contracts that the proof cites
-  abbrev RowAt : Contract 𝓤
-  RowAt = tripleOf 𝓤 H A row-at.signature (row-at.spec 𝓤 H A mem run)
-
   abbrev Answers : Contract 𝓤
   Answers = tripleOf 𝓤 H A answers′.signature (answers′.spec 𝓤 H A mem run)
 
@@ -148,21 +147,6 @@ module _ {M : Type 1} (𝓤 : URA M) (H : Heap 𝓤) (A : Atoms 𝓤) (W : Given
   OwnB = ShrRef (named 1) κb Ws .own w (p ∷ [])
 
   -- ---- what the callees are passed, and what they say
-  abbrev to-row : ℕ → RowAt 𝓤 H A mem run .Ghost
-  to-row i = (((κ, tt), (q, tt), tt, (x, (i, tt)), (s ∷ [], (vint w64 i ∷ [], tt))), tt)
-
-  row-asked : (i : ℕ) → ent 𝓤 (onEntry 𝓤 H A row-at.signature (κ, tt) (q, tt) (x, (i, tt)) (s ∷ [], (vint w64 i ∷ [], tt))) (RowAt 𝓤 H A mem run .pre (to-row i))
-  row-asked i = qed W ((‵ (flft κ q) ⊛ ‵ ftrue) ∷ ‵ (owns (ShrSlice (named 0) κ R ∷ usize ∷ []) (x, (i, tt)) (s ∷ [], (vint w64 i ∷ [], tt))) ∷ []) ∵ join ! $ frame ! $ done !
-
-  goes-row : (i : ℕ) → i < 2 ^ 64 → ent 𝓤 (sep 𝓤 (A .lft κ q) (sem 𝓤 H A OwnT)) (sep 𝓤 (RowAt 𝓤 H A mem run .pre (to-row i)) (sem 𝓤 H A OwnT))
-  goes-row i gi =
-      qed W (‵ (flft κ q) ∷ ‵ OwnT ∷ []) ∵ move ! (1 ∷ []) $ use1 W (‵ OwnT ⊛ ‵ OwnT) (shr-slice-copy 𝓤 H A W (named 0) κ R .twice x (s ∷ [])) $ split ! $
-      nothing ! $ owned ! usize (Is usize) (uint-makes 𝓤 H A W w64) i _ (refl, gi) $ fjoin ! $ move ! (1 ∷ 0 ∷ []) $ fjoin ! $ nothing ! $ move ! (3 ∷ 0 ∷ []) $ join ! $
-      use2 W (raw (RowAt 𝓤 H A mem run .pre (to-row i))) (row-asked i) $ frame ! $ done !
-
-  row-said : (i : ℕ) (r : Filter) → ent 𝓤 (ensured 𝓤 H A row-at.ended (row-at.clauses 𝓤 H A mem run) (κ, tt) (x, (i, tt)) tt r) (fact 𝓤 (r ≡ rowOf ys i))
-  row-said i r = exE 𝓤 _ (λ us. snd∗ 𝓤 (sem 𝓤 H A (lasts row-at.ended (κ, tt) (x, (i, tt)) us)) (fact 𝓤 (r ≡ rowOf ys i)))
-
   abbrev to-answers : Filter → Val → Answers 𝓤 H A mem run .Ghost
   to-answers r u = (((κb, tt), (qb, tt), tt, (r, (w, (ask, tt))), (u ∷ [], (p ∷ [], (mach ∷ [], tt)))), tt)
 
@@ -279,11 +263,11 @@ module _ {M : Type 1} (𝓤 : URA M) (H : Heap 𝓤) (A : Atoms 𝓤) (W : Given
       more t l =
           assigns ! (bin ! (load ! (from ! (stop !)) (look ! 14 refl)) (load ! (from ! (stop !)) (look ! 16 refl)) tt) (from ! (stop !)) (init ! 8 refl (tt, tt)) $
           rewrite ! 8 (λ (z : Bool). ‵ (fat fullShare tyBool l₈ 0 (vbool z))) (lt-ltb (t .0) (ask .to) l) refl $ stays ! (load ! (from ! (stop !)) (look ! 8 refl)) $
-          move ! (0 ∷ 2 ∷ []) $ use2 W (raw (RowAt 𝓤 H A mem run .pre (to-row (t .0))) ⊛ ‵ OwnT) (goes-row (t .0) (t .1 .0)) $ split ! $
+          move ! (0 ∷ 2 ∷ []) $ use2 W (raw (RowAt 𝓤 H A mem run .pre (asking.to-row 𝓤 H A mem run W κ q b o γ ys (t .0))) ⊛ ‵ OwnT) (asking.goes-row 𝓤 H A mem run W κ q b o γ ys (t .0) (t .1 .0)) $ split ! $
           -- [what row_at asks; what table owns; the bank's token; what it owns; _10; …; _9; …; _8; …; _7; …; _6; …; _5; …; _4; …; _3; …; _2; …; _1; …; _0; …]
-          calls-at ! fm (RowAt 𝓤 H A mem run) known-row (to-row (t .0)) (and-then ! (load ! (from ! (stop !)) (look ! 22 refl)) (and-then ! (load ! (from ! (stop !)) (look ! 14 refl)) (no-more !))) (λ u.
+          calls-at ! fm (RowAt 𝓤 H A mem run) known-row (asking.to-row 𝓤 H A mem run W κ q b o γ ys (t .0)) (and-then ! (load ! (from ! (stop !)) (look ! 22 refl)) (and-then ! (load ! (from ! (stop !)) (look ! 14 refl)) (no-more !))) (λ u.
           use1 W (later (some (λ (r : Filter). ((‵ (flft κ q) ⊛ ‵ ftrue) ⊛ ‵ (R .own r (u ∷ []))) ⊛ raw (ensured 𝓤 H A row-at.ended (row-at.clauses 𝓤 H A mem run) (κ, tt) (x, (t .0, tt)) tt r)))) (id⊢ 𝓤 _) $ await ! tt $ pick ! (λ r.
-          split ! $ move ! (1 ∷ []) $ use1 W (raw (fact 𝓤 (r ≡ rowOf ys (t .0)))) (row-said (t .0) r) $ heard ! (r ≡ rowOf ys (t .0)) (λ e. split ! $ move ! (1 ∷ []) $
+          split ! $ move ! (1 ∷ []) $ use1 W (raw (fact 𝓤 (r ≡ rowOf ys (t .0)))) (asking.row-said 𝓤 H A mem run W κ q b o γ ys (t .0) r) $ heard ! (r ≡ rowOf ys (t .0)) (λ e. split ! $ move ! (1 ∷ []) $
           -- [what the row owns; the table's token, and true; what table owns; the bank's token; what it owns; _10; …; …; _0; …]
           peeks ! R (Is R) (shows 𝓤 H A R) r (u ∷ []) (λ is. land ! (from ! (stop !)) (init ! 13 refl (LL.lawful T.the-type T′.the-laws 𝓤 H A W .typed r _ is .0)) $
           move ! (0 ∷ 3 ∷ 4 ∷ []) $ use3 W (raw (Answers 𝓤 H A mem run .pre (to-answers r u)) ⊛ ‵ OwnB) (goes-answers r u) $ split ! $

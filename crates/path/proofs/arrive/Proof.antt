@@ -1,17 +1,11 @@
 -- `path::arrive` meets its contract: each return is a case of `arrivalOf`.
-use mathlib.Core.Path.{_≡_, sym, _∙_}
+use mathlib.Core.Path.{sym}
 use denote.Ref.{now}
 use Rattle.bank.specs.Rows.{rowsOf}
 use Rattle.path.specs.Cases.{arrival-back, arrival-matched, arrival-unmatched}
 use borrow.Author.Needs.{needs}
 use Rattle.path.proofs.arrive.Statement.{statement}
 use Rattle.path.proofs.arrive.Tie as tie
-use Rattle.path.proofs.arrive.Reads as reads
-use Rattle.path.proofs.arrive.Lts as lts
-use Rattle.bank.proofs.put_stage.Reads as put-stage-reads
-use Rattle.bank.proofs.stage_at.Reads as stage-at-reads
-use Rattle.path.proofs.pass.Reads as pass-reads
-use Rattle.path.proofs.police.Reads as police-reads
 
 -- src/lib.rt:49:9
 stage-at-requires : tie.Need-stage-at-requires

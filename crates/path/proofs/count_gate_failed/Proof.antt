@@ -2,11 +2,6 @@ use Rattle.path.specs.Path.{gateFailed}
 use borrow.Author.Needs.{needs}
 use Rattle.path.proofs.count_gate_failed.Statement.{statement}
 use Rattle.path.proofs.count_gate_failed.Tie as tie
-use Rattle.path.proofs.count_gate_failed.Reads as reads
-use Rattle.path.proofs.count_gate_failed.Lts as lts
-use Rattle.bank.proofs.counters_at.Reads as counters-at-reads
-use Rattle.bank.proofs.put_counters.Reads as put-counters-reads
-use Rattle.path.proofs.one_more.Reads as one-more-reads
 
 -- src/lib.rt:249:9
 counters-at-requires : tie.Need-counters-at-requires

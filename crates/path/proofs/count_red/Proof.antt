@@ -2,11 +2,6 @@ use Rattle.path.specs.Path.{redCounted}
 use borrow.Author.Needs.{needs}
 use Rattle.path.proofs.count_red.Statement.{statement}
 use Rattle.path.proofs.count_red.Tie as tie
-use Rattle.path.proofs.count_red.Reads as reads
-use Rattle.path.proofs.count_red.Lts as lts
-use Rattle.bank.proofs.counters_at.Reads as counters-at-reads
-use Rattle.bank.proofs.put_counters.Reads as put-counters-reads
-use Rattle.path.proofs.one_more.Reads as one-more-reads
 
 -- src/lib.rt:242:9
 counters-at-requires : tie.Need-counters-at-requires

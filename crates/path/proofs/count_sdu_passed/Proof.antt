@@ -2,11 +2,6 @@ use Rattle.path.specs.Path.{sduPassed}
 use borrow.Author.Needs.{needs}
 use Rattle.path.proofs.count_sdu_passed.Statement.{statement}
 use Rattle.path.proofs.count_sdu_passed.Tie as tie
-use Rattle.path.proofs.count_sdu_passed.Reads as reads
-use Rattle.path.proofs.count_sdu_passed.Lts as lts
-use Rattle.bank.proofs.counters_at.Reads as counters-at-reads
-use Rattle.bank.proofs.put_counters.Reads as put-counters-reads
-use Rattle.path.proofs.one_more.Reads as one-more-reads
 
 -- src/lib.rt:222:9
 counters-at-requires : tie.Need-counters-at-requires

@@ -2,11 +2,6 @@ use Rattle.path.specs.Path.{discarded}
 use borrow.Author.Needs.{needs}
 use Rattle.path.proofs.discard.Statement.{statement}
 use Rattle.path.proofs.discard.Tie as tie
-use Rattle.path.proofs.discard.Reads as reads
-use Rattle.path.proofs.discard.Lts as lts
-use Rattle.bank.proofs.port_at.Reads as port-at-reads
-use Rattle.bank.proofs.put_discarded.Reads as put-discarded-reads
-use Rattle.path.proofs.one_more.Reads as one-more-reads
 
 -- src/lib.rt:235:9
 port-at-requires : tie.Need-port-at-requires

@@ -1,8 +1,6 @@
 use borrow.Author.Tests.{le-leb, lt-leb}
 use Rattle.path.proofs.internal.Statement.{statement}
 use Rattle.path.proofs.internal.Tie as tie
-use Rattle.path.proofs.internal.Reads as reads
-use Rattle.path.proofs.internal.Lts as lts
 
 -- src/lib.rt:219:1
 returns : tie.Need-returns

@@ -1,6 +1,5 @@
 -- `path::metered` meets its contract: each return is a case of `meteredOf`.
-use mathlib.Core.Path.{_≡_, sym, refl}
-use Prim.Native.Nat.{ℕ}
+use mathlib.Core.Path.{_≡_, sym}
 use denote.Ref.{now}
 use Rattle.bank.specs.Rows.{rowsOf}
 use Rattle.meter.specs.declared.Outcome.the-variants.{Green, Yellow, YellowDropped, Red, OutOfRange, TooEarly}
@@ -9,13 +8,6 @@ use Rattle.path.specs.Cases.{metered-none, metered-by}
 use borrow.Author.Needs.{needs}
 use Rattle.path.proofs.metered.Statement.{statement}
 use Rattle.path.proofs.metered.Tie as tie
-use Rattle.path.proofs.metered.Reads as reads
-use Rattle.path.proofs.metered.Lts as lts
-use Rattle.bank.proofs.meter_at.Reads as meter-at-reads
-use Rattle.bank.proofs.put_meter_state.Reads as put-meter-state-reads
-use Rattle.meter.proofs.Meter.colour.Reads as colour-reads
-use Rattle.path.proofs.count_red.Reads as count-red-reads
-use Rattle.path.proofs.schedule.Reads as schedule-reads
 
 -- what the meter says is what the definition asks it
 coloured : (c : tie.After-colour) → let a = c .before .before .before .before .before .before .before .before .args in c .colour .result ≡ colouredOf (rowsOf (now (a .bank))) (a .a) (a .row .meter)

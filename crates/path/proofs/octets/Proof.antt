@@ -1,9 +1,6 @@
 use borrow.Author.Needs.{needs}
 use Rattle.path.proofs.octets.Statement.{statement}
 use Rattle.path.proofs.octets.Tie as tie
-use Rattle.path.proofs.octets.Reads as reads
-use Rattle.path.proofs.octets.Lts as lts
-use Rattle.bank.proofs.port_at.Reads as port-at-reads
 
 -- src/lib.rt:228:33
 cast-port-at : tie.Need-cast-port-at

@@ -2,11 +2,6 @@ use Rattle.path.specs.Path.{passOf}
 use borrow.Author.Needs.{needs}
 use Rattle.path.proofs.pass.Statement.{statement}
 use Rattle.path.proofs.pass.Tie as tie
-use Rattle.path.proofs.pass.Reads as reads
-use Rattle.path.proofs.pass.Lts as lts
-use Rattle.bank.proofs.stage_at.Reads as stage-at-reads
-use Rattle.class.proofs.traffic_class.Reads as traffic-class-reads
-use Rattle.path.proofs.number.Reads as number-reads
 
 -- src/lib.rt:199:9
 stage-at-requires : tie.Need-stage-at-requires

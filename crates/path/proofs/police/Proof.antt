@@ -1,17 +1,11 @@
 -- `path::police` meets its contract: each return is a case of `policedOf`.
-use mathlib.Core.Path.{_≡_, sym, _∙_}
+use mathlib.Core.Path.{sym}
 use denote.Ref.{now}
 use Rattle.bank.specs.Rows.{rowsOf}
 use Rattle.path.specs.Cases.{policed-blocked, policed-oversize, policed-on}
 use borrow.Author.Needs.{needs}
 use Rattle.path.proofs.police.Statement.{statement}
 use Rattle.path.proofs.police.Tie as tie
-use Rattle.path.proofs.police.Reads as reads
-use Rattle.path.proofs.police.Lts as lts
-use Rattle.bank.proofs.counters_at.Reads as counters-at-reads
-use Rattle.path.proofs.count_sdu_failed.Reads as count-sdu-failed-reads
-use Rattle.path.proofs.count_sdu_passed.Reads as count-sdu-passed-reads
-use Rattle.path.proofs.reach.Reads as reach-reads
 
 -- src/lib.rt:53:9
 counters-at-requires : tie.Need-counters-at-requires

@@ -1,5 +1,5 @@
 -- `path::reach` meets its contract: each return is a case of `gatedOf`.
-use mathlib.Core.Path.{_≡_, sym, _∙_}
+use mathlib.Core.Path.{_≡_, sym}
 use denote.Ref.{now}
 use Rattle.bank.specs.Rows.{rowsOf}
 use Rattle.gate.specs.declared.Outcome.the-variants.{Passed, Blocked, Closed, TooManyOctets}
@@ -8,16 +8,6 @@ use Rattle.path.specs.Cases.{gated-by}
 use borrow.Author.Needs.{needs}
 use Rattle.path.proofs.reach.Statement.{statement}
 use Rattle.path.proofs.reach.Tie as tie
-use Rattle.path.proofs.reach.Reads as reads
-use Rattle.path.proofs.reach.Lts as lts
-use Rattle.bank.proofs.entries_at.Reads as entries-at-reads
-use Rattle.bank.proofs.gate_at.Reads as gate-at-reads
-use Rattle.bank.proofs.put_gate_state.Reads as put-gate-state-reads
-use Rattle.path.proofs.count_gate_failed.Reads as count-gate-failed-reads
-use Rattle.path.proofs.count_gate_passed.Reads as count-gate-passed-reads
-use Rattle.path.proofs.internal.Reads as internal-reads
-use Rattle.path.proofs.metered.Reads as metered-reads
-use Rattle.path.proofs.step_in.Reads as step-in-reads
 
 -- what the gate says is what the definition asks it
 reached : (c : tie.After-step-in) → let a = c .before .before .before .before .before .before .before .before .args in c .step-in .result ≡ reachedOf (rowsOf (now (a .bank))) (now (a .lists)) (a .a) (a .row .gate)

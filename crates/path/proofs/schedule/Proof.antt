@@ -8,17 +8,6 @@ use Rattle.path.specs.Cases.{scheduled-none, scheduled-by, scheduled-adm
 use borrow.Author.Needs.{needs}
 use Rattle.path.proofs.schedule.Statement.{statement}
 use Rattle.path.proofs.schedule.Tie as tie
-use Rattle.path.proofs.schedule.Reads as reads
-use Rattle.path.proofs.schedule.Lts as lts
-use Rattle.bank.proofs.group_at.Reads as group-at-reads
-use Rattle.bank.proofs.put_group_last.Reads as put-group-last-reads
-use Rattle.bank.proofs.put_scheduler_state.Reads as put-scheduler-state-reads
-use Rattle.bank.proofs.scheduler_at.Reads as scheduler-at-reads
-use Rattle.bank.proofs.scheduler_group.Reads as scheduler-group-reads
-use Rattle.path.proofs.discard.Reads as discard-reads
-use Rattle.path.proofs.octets.Reads as octets-reads
-use Rattle.path.proofs.pass.Reads as pass-reads
-use Rattle.scheduler.proofs.step.Reads as step-reads
 
 -- what the scheduler says is what the definition asks it
 offered : (c : tie.After-step) → let a = c .before .before .before .before .before .before .before .before .before .before .before .before .args in c .step .result ≡ offeredOf (rowsOf (now (a .bank))) (a .a) (a .row .scheduler) (c .before .before .before .before .before .before .before .scheduler-group .result)

@@ -8,9 +8,6 @@ use Rattle.gate.specs.Meaning.{stepOf, entriesOf}
 use borrow.Author.Needs.{needs}
 use Rattle.path.proofs.step_in.Statement.{statement}
 use Rattle.path.proofs.step_in.Tie as tie
-use Rattle.path.proofs.step_in.Reads as reads
-use Rattle.path.proofs.step_in.Lts as lts
-use Rattle.gate.proofs.step.Reads as step-reads
 
 part : (from n : ℕ) → from + n - from ≡ n
 part from n = omega arith

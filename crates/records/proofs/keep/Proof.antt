@@ -1,9 +1,9 @@
 -- `records::keep` meets its contract. Invariant: the first i places have what stood `from` further on, and the others are as they were. Measure: the octets left.
 -- Assumes nothing.
-use mathlib.Core.Path.{_≡_, refl, sym, _∙_}
-use Prim.Native.Nat.{ℕ, _+_, _-_, _<_, _≤_}
+use mathlib.Core.Path.{_≡_, refl, _∙_}
+use Prim.Native.Nat.{_-_, _≤_}
 use native.Mathlib.Omega.{arith}
-use lib.ListN.{length, getD, length-set}
+use lib.ListN.{length, length-set}
 use Rattle.records.proofs.Front.{Front, front-next}
 use Rattle.records.proofs.keep.Statement.{statement}
 use Rattle.records.proofs.keep.Tie as tie

@@ -1,7 +1,7 @@
 -- `records::print_piece` is safe and ends. Invariant: the place is in the piece, and the output is as long as it was. Measure: the turns left.
 -- Assumes nothing.
 use Prim.Native.Nat.{_≤_}
-use mathlib.Core.Path.{_≡_, refl, _∙_}
+use mathlib.Core.Path.{_≡_, refl}
 use native.Mathlib.Omega.{arith}
 use borrow.Author.Needs.{needs}
 use lib.ListN.{length}

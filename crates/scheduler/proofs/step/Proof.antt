@@ -1,8 +1,8 @@
 -- `scheduler::step` meets its contract. `range` is what the range check tells, `gave` that the eligibility time is the specified one; each return is a case of `stepOf`.
 -- Assumes nothing.
-use mathlib.Core.Path.{_≡_, sym, _∙_, ap}
+use mathlib.Core.Path.{_≡_, sym, _∙_}
 use mathlib.Core.Bool.{true, false}
-use Prim.Native.Nat.{ℕ, _-_, _+_, _≤_, max}
+use Prim.Native.Nat.{_-_}
 use borrow.Author.Needs.{needs}
 use borrow.Author.Tests.{not-true, not-false}
 use native.Mathlib.Omega.{arith}
@@ -13,12 +13,6 @@ use Rattle.scheduler.specs.Range.{Ranged, ranged, testOf}
 use Rattle.scheduler.specs.Cases.{step-refused, step-admitted, step-dropped, enough}
 use Rattle.scheduler.proofs.step.Statement.{statement}
 use Rattle.scheduler.proofs.step.Tie as tie
-use Rattle.scheduler.proofs.step.Reads as reads
-use Rattle.scheduler.proofs.step.Lts as lts
-use Rattle.bucket.proofs.grow.Reads as grow-reads
-use Rattle.bucket.proofs.wait.Reads as wait-reads
-use Rattle.scheduler.proofs.in_range.Reads as in-range-reads
-use Rattle.scheduler.proofs.later.Reads as later-reads
 
 -- what passed in holds at each place after the range check
 passed : (c : tie.Else1) → let a = c .before .before .before .before .before .before .args in testOf (a .s) (a .group) (a .residence) (a .arrival) (a .length) ≡ true

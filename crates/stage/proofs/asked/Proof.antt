@@ -2,11 +2,6 @@
 use borrow.Author.Needs.{needs}
 use Rattle.stage.proofs.asked.Statement.{statement}
 use Rattle.stage.proofs.asked.Tie as tie
-use Rattle.stage.proofs.asked.Reads as reads
-use Rattle.stage.proofs.asked.Lts as lts
-use Rattle.stage.proofs.at.Reads as at-reads
-use Rattle.stage.proofs.first.Reads as first-reads
-use Rattle.stage.proofs.second.Reads as second-reads
 
 -- src/lib.rt:74:20
 enum-told : tie.Need-enum-told

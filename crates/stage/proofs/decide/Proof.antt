@@ -3,10 +3,6 @@ use Rattle.stage.specs.Plan.{decidedOf}
 use borrow.Author.Needs.{needs}
 use Rattle.stage.proofs.decide.Statement.{statement}
 use Rattle.stage.proofs.decide.Tie as tie
-use Rattle.stage.proofs.decide.Reads as reads
-use Rattle.stage.proofs.decide.Lts as lts
-use Rattle.stage.proofs.handle.Reads as handle-reads
-use Rattle.stage.proofs.kept.Reads as kept-reads
 
 -- src/lib.rt:142:26
 enum-known-reading : tie.Need-enum-known-reading

@@ -10,19 +10,6 @@ use Rattle.stage.specs.Plan.{settled, banked, listed, takenBy}
 use borrow.Author.Needs.{needs}
 use Rattle.stage.proofs.handle.Statement.{statement}
 use Rattle.stage.proofs.handle.Tie as tie
-use Rattle.stage.proofs.handle.Reads as reads
-use Rattle.stage.proofs.handle.Lts as lts
-use Rattle.path.proofs.arrive.Reads as arrive-reads
-use Rattle.setup.proofs.add_entry.Reads as add-entry-reads
-use Rattle.setup.proofs.clear.Reads as clear-reads
-use Rattle.setup.proofs.set_gate.Reads as set-gate-reads
-use Rattle.setup.proofs.set_group.Reads as set-group-reads
-use Rattle.setup.proofs.set_meter.Reads as set-meter-reads
-use Rattle.setup.proofs.set_port.Reads as set-port-reads
-use Rattle.setup.proofs.set_scheduler.Reads as set-scheduler-reads
-use Rattle.setup.proofs.start.Reads as start-reads
-use Rattle.stage.proofs.kept.Reads as kept-reads
-use Rattle.stage.proofs.place.Reads as place-reads
 
 -- src/lib.rt:160:22
 enum-known-taken : tie.Need-enum-known-taken

@@ -6,10 +6,6 @@ use Rattle.stage.specs.Agree.{answered-is}
 use borrow.Author.Needs.{needs}
 use Rattle.stage.proofs.kept.Statement.{statement}
 use Rattle.stage.proofs.kept.Tie as tie
-use Rattle.stage.proofs.kept.Reads as reads
-use Rattle.stage.proofs.kept.Lts as lts
-use Rattle.filter.proofs.empty.Reads as empty-reads
-use Rattle.stage.proofs.octets.Reads as octets-reads
 
 -- src/lib.rt:206:14
 empty-requires : tie.Need-empty-requires

@@ -11,8 +11,6 @@ use Rattle.stage.specs.Take.{answered}
 use borrow.Author.Needs.{needs}
 use Rattle.stage.proofs.octets.Statement.{statement}
 use Rattle.stage.proofs.octets.Tie as tie
-use Rattle.stage.proofs.octets.Reads as reads
-use Rattle.stage.proofs.octets.Lts as lts
 
 -- every other verdict uses the whole record
 other : (v : Verdict) (used : ℕ) → OneOf (1 ∷ 2 ∷ 3 ∷ []) (tagOf verdict-type.the-type v) → used ≡ answered used v .used

@@ -4,10 +4,6 @@ use Rattle.stage.specs.Plan.{placedOf}
 use borrow.Author.Needs.{needs}
 use Rattle.stage.proofs.place.Statement.{statement}
 use Rattle.stage.proofs.place.Tie as tie
-use Rattle.stage.proofs.place.Reads as reads
-use Rattle.stage.proofs.place.Lts as lts
-use Rattle.filter.proofs.is_filter.Reads as is-filter-reads
-use Rattle.stage.proofs.kept.Reads as kept-reads
 
 -- src/lib.rt:177:8
 is-filter-requires : tie.Need-is-filter-requires

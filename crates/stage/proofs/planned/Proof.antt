@@ -2,11 +2,6 @@
 use borrow.Author.Needs.{needs}
 use Rattle.stage.proofs.planned.Statement.{statement}
 use Rattle.stage.proofs.planned.Tie as tie
-use Rattle.stage.proofs.planned.Reads as reads
-use Rattle.stage.proofs.planned.Lts as lts
-use Rattle.bank.proofs.stage_at.Reads as stage-at-reads
-use Rattle.record.proofs.read.Reads as read-reads
-use Rattle.stage.proofs.asked.Reads as asked-reads
 
 -- src/lib.rt:64:9
 stage-at-requires : tie.Need-stage-at-requires

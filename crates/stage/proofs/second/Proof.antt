@@ -1,7 +1,6 @@
 -- `stage::second` meets its contract.
 use mathlib.Core.Path.{_≡_, refl, sym, ap, _∙_}
 use mathlib.Core.List.{[], _∷_}
-use Prim.Native.Nat.{ℕ}
 use denote.Enum.Declared.{tagOf}
 use types.Run.{OneOf, miss}
 use Rattle.record.specs.declared.Record.{Record}
@@ -11,10 +10,6 @@ use Rattle.stage.specs.Plan.{at, secondOf}
 use borrow.Author.Needs.{needs}
 use Rattle.stage.proofs.second.Statement.{statement}
 use Rattle.stage.proofs.second.Tie as tie
-use Rattle.stage.proofs.second.Reads as reads
-use Rattle.stage.proofs.second.Lts as lts
-use Rattle.stage.proofs.all.Reads as all-reads
-use Rattle.stage.proofs.at.Reads as at-reads
 
 -- every other kind asks for nothing
 other : (r : Record) → OneOf (0 ∷ 2 ∷ 3 ∷ 4 ∷ 5 ∷ 6 ∷ []) (tagOf R.the-type r) → at 64 ≡ secondOf r

@@ -1,7 +1,7 @@
 -- `stream::keep` meets its contract. Invariant: the first i places have what stood `from` further on, and the others are as they were. Measure: the octets left.
 -- Assumes nothing.
 use mathlib.Core.Path.{_≡_, refl, _∙_}
-use Prim.Native.Nat.{_+_, _-_, _<_, _≤_}
+use Prim.Native.Nat.{_-_, _≤_}
 use native.Mathlib.Omega.{arith}
 use lib.ListN.{length, length-set}
 use Rattle.stream.proofs.Front.{Front, front-next}
