@@ -20,4 +20,5 @@ pub mod Counters
 pub mod Spoiled
 pub mod Starred
 pub mod Single
+pub mod Pieces
 pub mod Bursts
