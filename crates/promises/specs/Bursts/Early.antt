@@ -29,7 +29,7 @@ use Rattle.stage.specs.Take.{Bridge, Took, bridge, answered, refusedOf, banked,
 use Rattle.promises.specs.Bursts.Pairs.{apart, Near, near-apart, with-constants, constantsIn}
 use Rattle.promises.specs.Bursts.Found.{Checked, missing-found-both, start-checks, checked-stays}
 use Rattle.promises.specs.Bursts.Setups.{Together, port-together, gate-together, entry-together, meter-together, group-together, scheduler-together, start-together}
-use Rattle.promises.specs.Bursts.Turns.{Setup}
+use Rattle.promises.specs.Untouched.{Setup}
 
 pub record Kept (g : ℕ) (o o′ : Took) : Type 0 where
   pub answers : o .answer ≡ o′ .answer

@@ -12,21 +12,9 @@ use Rattle.record.specs.declared.Reading.the-variants as reading
 use Rattle.record.specs.Kinds.{octetOf}
 use Rattle.record.specs.Read.{kindIn, inTurnOf, readOf}
 use Rattle.record.specs.Laws.{read-says, read-kind}
+use Rattle.promises.specs.Untouched.{Setup}
 
--- kinds 1 to 8
-abbrev pub Setup : Record → Type 0
-Setup (kind.Port r) = Unit {0}
-Setup (kind.Filter r) = Unit {0}
-Setup (kind.Gate r) = Unit {0}
-Setup (kind.GateEntry r) = Unit {0}
-Setup (kind.Meter r) = Unit {0}
-Setup (kind.Group r) = Unit {0}
-Setup (kind.Scheduler r) = Unit {0}
-Setup (kind.Start r) = Unit {0}
-Setup (kind.Arrival a) = ⊥
-Setup (kind.Clear r) = ⊥
-
--- a record in its turn
+-- a record in its turn: before start kinds 1 to 8
 pub data Turn : Bool → Record → Type 0 where
   early : {r : Record} → Setup r → Turn false r
   arrival : (a : ArrivalRecord) → Turn true (kind.Arrival a)
