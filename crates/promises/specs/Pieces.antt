@@ -17,7 +17,7 @@ use Rattle.record.specs.declared.Reading.{Reading}
 use Rattle.record.specs.declared.Reading.the-variants as reading
 use Rattle.record.specs.Kinds.{Kind}
 use Rattle.record.specs.Read.{readOf, kindIn, lengthOf}
-use Rattle.record.specs.Laws.{Says, read-says, read-extends, record-kind}
+use Rattle.record.specs.Laws.{read-says, read-extends, record-kind}
 use Rattle.bank.specs.Store.{store}
 use Rattle.bank.specs.Views.{entries, withEntries}
 use Rattle.verdict.specs.declared.Answer.{Answer}
