@@ -90,10 +90,27 @@ pub fn stream(seed: u64, stream: u64, mode: Option<Mode>) -> Vec<u8> {
     }
 }
 
+/// A stream that no program reads at once: thousands of records, every other
+/// one cut off within 17 octets of its end.
+pub fn long(seed: u64, stream: u64) -> Vec<u8> {
+    let mut random = Random::of_stream(seed, stream);
+    let mode = [Mode::Valid, Mode::Dense, Mode::Edge][(stream % 3) as usize];
+    let mut input = octets(&sized(&mut random, mode, (8_000, 12_000)));
+    if stream % 2 == 1 {
+        let cut = random.between(1, 17) as usize;
+        input.truncate(input.len() - cut);
+    }
+    input
+}
+
 /// The records of a stream without damage: all of them are taken.
 pub fn sound(random: &mut Random, mode: Mode) -> Vec<Plain> {
+    sized(random, mode, (40, 240))
+}
+
+fn sized(random: &mut Random, mode: Mode, count: (u64, u64)) -> Vec<Plain> {
     let mut records = setup::setup(random, mode);
-    let traffic = traffic::traffic(random, mode, &records);
+    let traffic = traffic::traffic(random, mode, &records, count);
     records.extend(traffic);
     records
 }

@@ -8,10 +8,15 @@ use crate::fields::{
 };
 use crate::random::Random;
 
-/// Arrivals and clears, all of which are taken.
-pub fn traffic(random: &mut Random, mode: Mode, setup: &[Plain]) -> Vec<Plain> {
+/// Arrivals and clears, all of which are taken; at least and at most so many.
+pub fn traffic(
+    random: &mut Random,
+    mode: Mode,
+    setup: &[Plain],
+    (least, most): (u64, u64),
+) -> Vec<Plain> {
     let now = first_time(random, mode);
-    let count = random.between(40, 240);
+    let count = random.between(least, most);
     let mut traffic = Traffic { random, mode, setup, now };
     (0..count).map(|_| traffic.record()).collect()
 }

@@ -17,7 +17,7 @@ use second::run::{End, Run};
 use second::trace::{trace, Place, Trace};
 
 use crate::options::Options;
-use crate::program;
+use crate::program::{self, Feed};
 use crate::progress::Progress;
 
 pub fn run(options: &Options) -> Result<String, String> {
@@ -103,8 +103,8 @@ impl Pair {
         if trace.end != End::NoOctetLeft {
             return Err("the setup is refused\n".to_string());
         }
-        let first = program::run(&options.ingress, &self.first)?;
-        let second = program::run(&options.ingress, &self.second)?;
+        let first = program::run(&options.ingress, &self.first, Feed::AtOnce)?;
+        let second = program::run(&options.ingress, &self.second, Feed::AtOnce)?;
         let dropped = check_lines(&trace, &self.frames_of_group(), [&first, &second], seen)?;
         seen.dropped += u64::from(dropped.is_some());
         let until = dropped.map_or(self.first.len(), |arrival| trace.lines[arrival].place.offset);
@@ -145,8 +145,8 @@ impl Pair {
 
     /// Counters and flags before the first drop 8 in the group are equal.
     fn check_reports(&self, report: &Path, until: usize) -> Result<(), String> {
-        let first = program::run(report, &self.first[..until])?;
-        let second = program::run(report, &self.second[..until])?;
+        let first = program::run(report, &self.first[..until], Feed::AtOnce)?;
+        let second = program::run(report, &self.second[..until], Feed::AtOnce)?;
         if first == second {
             return Ok(());
         }

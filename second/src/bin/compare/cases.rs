@@ -10,7 +10,7 @@ use second::trace::{trace, Trace};
 
 use crate::difference::{in_answers, in_records, in_report, Pair};
 use crate::options::Options;
-use crate::program::run_all;
+use crate::program::{run_all, Feed};
 use crate::progress::Progress;
 use crate::tally::Tally;
 
@@ -52,7 +52,7 @@ fn check(options: &Options, case: &Path, tally: &mut Tally) -> Result<(), String
     tally.count(&trace);
     let programs =
         [Some(options.ingress.as_path()), options.report.as_deref(), options.records.as_deref()];
-    let [answers, report, records] = run_all(programs, &input)?;
+    let [answers, report, records] = run_all(programs, &input, Feed::AtOnce)?;
     let golden = read(&case.with_extension("out"))?;
     answers_agree(&subject, &trace, &input, &golden, &answers.unwrap_or_default())?;
     reports_agree(&subject, &trace, &input, case, options, report.as_deref())?;

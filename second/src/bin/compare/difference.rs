@@ -5,7 +5,7 @@ use std::path::Path;
 use second::print;
 use second::trace::{Place, Trace};
 
-use crate::program;
+use crate::program::{self, Feed};
 
 /// Two outputs for one input, each with the name of who printed it.
 pub struct Pair<'a> {
@@ -81,7 +81,7 @@ pub fn in_report(
     }
     for (place, next) in trace.places.iter().zip(trace.places.iter().skip(1)) {
         let part = &input[..next.offset];
-        let (theirs, ours) = (program::run(program, part)?, print::report(part));
+        let (theirs, ours) = (program::run(program, part, Feed::AtOnce)?, print::report(part));
         let shorter = Pair { left: (pair.left.0, &theirs), right: (pair.right.0, &ours) };
         if !shorter.equal() {
             let answers = shorter.answers(shorter.first_difference());

@@ -44,10 +44,12 @@ fn compare(options: &Options) -> Result<String, String> {
     let folder = options.cases.as_deref().expect("cases are asked for");
     let cases = cases::run(options, folder, &mut tally)?;
     streams::run(options, &mut tally)?;
+    let (long, short) = streams::run_pieces(options, &mut tally)?;
     tally.print();
     // Fewer streams were asked for on purpose and show what they show.
     if options.streams >= STREAMS {
         tally.check()?;
     }
+    println!("in pieces: {long} long streams, {short} short ones");
     Ok(format!("compare: {cases} cases, {} streams, 0 differences", options.streams))
 }

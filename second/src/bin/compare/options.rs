@@ -7,9 +7,10 @@ Usage: compare --ingress PATH [--report PATH] [--records PATH] --cases DIR
                [--seed N] [--streams N]
        compare --bursts --ingress PATH [--report PATH] [--seed N] [--streams N]
 
-Runs every case, then random streams, through the given programs and the
-second engine, and fails on the first difference. Each program reads records
-from standard input.
+Runs every case, then random streams, then some that are too long to be read
+at once and some that come a few octets at a time, through the given programs
+and the second engine, and fails on the first difference. Each program reads
+records from standard input.
 
   --ingress PATH  the program that prints an answer for each arrival
   --report PATH   the program that prints counters and flags
