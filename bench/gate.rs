@@ -8,12 +8,12 @@ use rounds::{race, round};
 use std::hint::black_box;
 
 extern "C" {
-    // crates/bench_gate: the list as pointer and length, the gate as nine words.
-    fn transomrib_bench_gate(list: *const u8, length: usize, words: *mut [u64; 9], time: u64, msdu: u64) -> u64;
+    // crates/bench_steps: the list as pointer and length, the gate as nine words.
+    fn bench_gate_step(list: *const u8, length: usize, words: *mut [u64; 9], time: u64, msdu: u64) -> u64;
 }
 
 fn proved(list: &[u8], words: &mut [u64; 9], time: u64, msdu: u64) -> u64 {
-    unsafe { transomrib_bench_gate(list.as_ptr(), list.len(), words, time, msdu) }
+    unsafe { bench_gate_step(list.as_ptr(), list.len(), words, time, msdu) }
 }
 
 // The words of a gate, in the order of `gate::Gate`.

@@ -2,6 +2,14 @@
 use second::bridge::{Outcome, Verdict};
 use second::filter::Filter;
 
+// The lengths of include/transomrib.h; .ci/sizes holds both to the code.
+pub const ROWS: usize = 64;
+pub const BANK_WORDS: usize = 1480;
+pub const LISTS_OCTETS: usize = 1408;
+
+type Bank = [u64; BANK_WORDS];
+type Lists = [u8; LISTS_OCTETS];
+
 #[repr(C)]
 #[derive(Clone, Copy, Debug, Default, PartialEq, Eq)]
 pub struct Row {
@@ -86,25 +94,25 @@ extern "C" {
     fn transomrib_take(
         table: *mut Row,
         rows: usize,
-        bank: *mut [u64; 1480],
-        lists: *mut [u8; 1408],
+        bank: *mut Bank,
+        lists: *mut Lists,
         input: *const u8,
         length: usize,
     ) -> Reply;
     #[allow(dead_code)]
-    fn transomrib_read(bank: *const [u64; 1480], what: u32, index: u32) -> u64;
+    fn transomrib_read(bank: *const Bank, what: u32, index: u32) -> u64;
 }
 
 #[derive(Clone, PartialEq, Eq)]
 pub struct Proved {
     pub table: Vec<Row>,
-    bank: Box<[u64; 1480]>,
-    lists: Box<[u8; 1408]>,
+    bank: Box<Bank>,
+    lists: Box<Lists>,
 }
 
 impl Proved {
     pub fn fresh() -> Proved {
-        Proved { table: vec![Row::default(); 64], bank: Box::new([0; 1480]), lists: Box::new([0; 1408]) }
+        Proved { table: vec![Row::default(); ROWS], bank: Box::new([0; BANK_WORDS]), lists: Box::new([0; LISTS_OCTETS]) }
     }
 
     #[inline]

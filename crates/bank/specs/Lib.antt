@@ -1,4 +1,4 @@
+pub mod Meaning
 pub mod Store
 pub mod Rows
-pub mod Views
 pub mod Laws

@@ -2,30 +2,15 @@
 use Prim.Native.Nat.{ℕ, _+_, _*_, _/_, _%_, _≤_, _<_}
 use mathlib.Core.Path.{_≡_, refl, ap, sym, fun-ext, _∙_}
 use mathlib.Core.List.{List}
-use mathlib.Core.Bool.{Bool, true, false}
 use mathlib.Core.Logic.{_≢_}
 use native.Mathlib.Omega.{arith}
 use native.Mathlib.Decide.{ℕ-discrete}
 use borrow.Author.Tests.{eq-eqb, ne-eqb}
-use lib.Dec.{eqb}
 use lib.ListN.{length, getD, set}
 use lib.Seq.{ext-getD}
-use Rattle.bank.specs.Store.{load, store, load-same, load-apart, getD-load, load-set, load-untouched}
-
-abbrev pub pick {ℓ} : {A : Type ℓ} → Bool → A → A → A
-pick true a b = a
-pick false a b = b
-
--- the rows of a state: eight words each, all 0 past the last
-abbrev pub Rows : Type 0
-Rows = ℕ → List ℕ
-
-abbrev pub rowsOf : List ℕ → Rows
-rowsOf ws r = load ws (r * 8) 0 8
-
--- row r is vs, and every other row is as it was
-unfoldable pub withRow : Rows → ℕ → List ℕ → Rows
-withRow s r vs q = pick (eqb q r) vs (s q)
+use Rattle.sizes.specs.Meaning.{rowWords}
+use Rattle.bank.specs.Meaning.{store, Rows, rowsOf, withRow}
+use Rattle.bank.specs.Store.{load-same, load-apart, getD-load, load-set, load-untouched}
 
 pub row-same : (s : Rows) (r : ℕ) (vs : List ℕ) → withRow s r vs r ≡ vs
 unfolding withRow
@@ -57,38 +42,38 @@ module _ {A : Type 0} (f : List ℕ → A) (s : Rows) (r : ℕ) (vs : List ℕ) 
   pub row-kept : (q : ℕ) → f (withRow s r vs q) ≡ f (s q)
   row-kept q = at-kept q (ℕ-discrete q r)
 
--- a store of eight words at row r
+-- a store of a whole row at row r
 abbrev pub putRow : List ℕ → ℕ → List ℕ → List ℕ
-putRow ws r vs = store ws (r * 8) 0 vs
+putRow ws r vs = store ws (r * rowWords) 0 vs
 
-module _ (ws : List ℕ) (r : ℕ) (vs : List ℕ) (eight : length vs ≡ 8) (fits : r * 8 + 8 ≤ length ws) where
+module _ (ws : List ℕ) (r : ℕ) (vs : List ℕ) (whole : length vs ≡ rowWords) (fits : r * rowWords + rowWords ≤ length ws) where
   at-row : (q : ℕ) → Dec (q ≡ r) → rowsOf (putRow ws r vs) q ≡ withRow (rowsOf ws) r vs q
   at-row q (yes e) =
-      rw e ((rw eight at (load-same ws (r * 8) 0 vs (omega arith))) ∙ sym (row-same (rowsOf ws) r vs))
-  at-row q (no h) = load-apart ws (r * 8) vs (q * 8) 8 (omega arith) ∙ sym (row-other (rowsOf ws) r vs q h)
+      rw e ((rw whole at (load-same ws (r * rowWords) 0 vs (omega arith))) ∙ sym (row-same (rowsOf ws) r vs))
+  at-row q (no h) = load-apart ws (r * rowWords) vs (q * rowWords) rowWords (omega arith) ∙ sym (row-other (rowsOf ws) r vs q h)
 
   pub rows-put : rowsOf (putRow ws r vs) ≡ withRow (rowsOf ws) r vs
   rows-put = fun-ext (λ q. at-row q (ℕ-discrete q r))
 
 -- a store of one word, the k-th of row r
-module _ (ws : List ℕ) (r k v : ℕ) (in-row : k < 8) (fits : r * 8 + 8 ≤ length ws) where
-  at-cell : (q : ℕ) → Dec (q ≡ r) → rowsOf (set ws (r * 8 + k) v) q ≡ withRow (rowsOf ws) r (set (rowsOf ws r) k v) q
+module _ (ws : List ℕ) (r k v : ℕ) (in-row : k < rowWords) (fits : r * rowWords + rowWords ≤ length ws) where
+  at-cell : (q : ℕ) → Dec (q ≡ r) → rowsOf (set ws (r * rowWords + k) v) q ≡ withRow (rowsOf ws) r (set (rowsOf ws r) k v) q
   at-cell q (yes e) =
-      rw e (load-set ws (r * 8 + k) v (r * 8) 0 8 k (omega arith) in-row (omega arith) ∙ sym (row-same (rowsOf ws) r (set (rowsOf ws r) k v)))
+      rw e (load-set ws (r * rowWords + k) v (r * rowWords) 0 rowWords k (omega arith) in-row (omega arith) ∙ sym (row-same (rowsOf ws) r (set (rowsOf ws r) k v)))
   at-cell q (no h) =
-      load-untouched ws (r * 8 + k) v (q * 8) 0 8 (omega arith) ∙ sym (row-other (rowsOf ws) r (set (rowsOf ws r) k v) q h)
+      load-untouched ws (r * rowWords + k) v (q * rowWords) 0 rowWords (omega arith) ∙ sym (row-other (rowsOf ws) r (set (rowsOf ws r) k v) q h)
 
-  pub cell-put : rowsOf (set ws (r * 8 + k) v) ≡ withRow (rowsOf ws) r (set (rowsOf ws r) k v)
+  pub cell-put : rowsOf (set ws (r * rowWords + k) v) ≡ withRow (rowsOf ws) r (set (rowsOf ws r) k v)
   cell-put = fun-ext (λ q. at-cell q (ℕ-discrete q r))
 
-pub cell-get : (ws : List ℕ) (r k : ℕ) → k < 8 → getD ws (r * 8 + k) 0 ≡ getD (rowsOf ws r) k 0
-cell-get ws r k h = ap (λ (x : ℕ). getD ws x 0) (omega arith) ∙ sym (getD-load ws (r * 8) 0 8 k h)
+pub cell-get : (ws : List ℕ) (r k : ℕ) → k < rowWords → getD ws (r * rowWords + k) 0 ≡ getD (rowsOf ws r) k 0
+cell-get ws r k h = ap (λ (x : ℕ). getD ws x 0) (omega arith) ∙ sym (getD-load ws (r * rowWords) 0 rowWords k h)
 
 -- the rows tell the words: nothing is left out of the state
-word-of-row : (ws : List ℕ) (i : ℕ) → getD ws i 0 ≡ getD (rowsOf ws (i / 8)) (i % 8) 0
-word-of-row ws i = ap (λ (x : ℕ). getD ws x 0) (omega arith) ∙ sym (getD-load ws (i / 8 * 8) 0 8 (i % 8) (omega arith))
+word-of-row : (ws : List ℕ) (i : ℕ) → getD ws i 0 ≡ getD (rowsOf ws (i / rowWords)) (i % rowWords) 0
+word-of-row ws i = ap (λ (x : ℕ). getD ws x 0) (omega arith) ∙ sym (getD-load ws (i / rowWords * rowWords) 0 rowWords (i % rowWords) (omega arith))
 
 pub rows-tell : (ws vs : List ℕ) → length ws ≡ length vs → rowsOf ws ≡ rowsOf vs → ws ≡ vs
 rows-tell ws vs e h =
     ext-getD 0 ws vs e
-    (λ i _. word-of-row ws i ∙ ap (λ (s : Rows). getD (s (i / 8)) (i % 8) 0) h ∙ sym (word-of-row vs i))
+    (λ i _. word-of-row ws i ∙ ap (λ (s : Rows). getD (s (i / rowWords)) (i % rowWords) 0) h ∙ sym (word-of-row vs i))

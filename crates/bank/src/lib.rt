@@ -1,5 +1,5 @@
-// The state of the bridge, kept as words that are lent: 185 rows of eight words, each row one object's, or the half of one.
-// `specs/Views.antt` says which row is whose and which word is what. All zeros is a fresh bridge.
+// The state of the bridge, kept as words that are lent: rows of eight words, each row one object's, or the half of one.
+// `specs/Meaning.antt` says which row is whose and which word is what. All zeros is a fresh bridge.
 //
 // Every function is total: an index is taken modulo the size of its table, and every word has a meaning.
 use bucket::Octets;
@@ -10,16 +10,16 @@ use scheduler::Scheduler;
 ghost use mathlib.Core.Path.{_≡_};
 ghost use mathlib.Core.List.{[], _∷_};
 ghost use Prim.Native.Nat.{_<_};
-ghost use lib.ListN.{set};
-ghost use Rattle.bank.specs.Rows.{rowsOf, withRow};
-ghost use Rattle.bank.specs.Views.{stage, withStage, port, withPort, withDiscarded, counters, withCounters, gate, gateIsSet, entries, withGate, withEntries, withGateState, meter, meterIsSet, withMeter, withMeterState, group, withGroup, withGroupLast, scheduler, schedulerIsSet, schedulerGroup, burst, withScheduler, withSchedulerState};
+ghost use Rattle.sizes.specs.Meaning.{rowWords};
+ghost use Rattle.bank.specs.Meaning.{rowsOf, withRow, bankRows, withWord, component, withClasses, withClock, withOverhead, port, withPort, withDiscarded, counters, counterPlace, bump, withOversize, gate, gateIsSet, entries, withGate, withEntries, withGateState, meter, meterIsSet, withMeter, withMeterState, group, withGroup, withGroupLast, scheduler, schedulerIsSet, schedulerGroup, burst, withScheduler, withSchedulerState};
 
-pub type Words = [u64; 1480];
+pub type Words = [u64; WORDS];
 
-// The octets of the gate lists: 88 for each gate, the bodies of its entries' records as they came.
-pub type Lists = [u8; 1408];
+// The octets of the gate lists: for each gate, the bodies of its entries' records as they came.
+pub type Lists = [u8; sizes::LISTS];
 
-pub struct Stage {
+// What is the bridge component's own, and no table's.
+pub struct Component {
     // Traffic classes; 0 before start.
     pub classes: u64,
     // The time of the last taken arrival, in ns; 0 if none.
@@ -31,7 +31,7 @@ pub struct Stage {
 pub struct Port {
     pub set: bool,
     // In octets.
-    pub overhead: u64,
+    pub overhead: u8,
     // DiscardedFrames.
     pub discarded: u64,
 }
@@ -56,65 +56,96 @@ pub struct Group {
     pub last: u64,
 }
 
-// The first row of each table.
-const STAGE: usize = 0;
+// What is counted of a filter.
+pub enum Counter {
+    Matching,
+    PassingSdu,
+    NotPassingSdu,
+    Passing,
+    NotPassing,
+    Red,
+}
+
+// The first row of each table. The counters' table is the last one: more filters shift nothing.
+const COMPONENT: usize = 0;
 
 const PORTS: usize = 1;
 
-const COUNTERS: usize = 9;
+const GATES: usize = PORTS + sizes::PORTS;
 
-const GATES: usize = 73;
+const GATE_STATES: usize = GATES + sizes::GATES;
 
-const GATE_STATES: usize = 89;
+const METERS: usize = GATE_STATES + sizes::GATES;
 
-const METERS: usize = 105;
+const METER_STATES: usize = METERS + sizes::METERS;
 
-const METER_STATES: usize = 121;
+const GROUPS: usize = METER_STATES + sizes::METERS;
 
-const GROUPS: usize = 137;
+const SCHEDULERS: usize = GROUPS + sizes::GROUPS;
 
-const SCHEDULERS: usize = 153;
+const COUNTERS: usize = SCHEDULERS + sizes::SCHEDULERS;
+
+const ROWS: usize = COUNTERS + sizes::FILTERS;
+
+pub const WORDS: usize = ROWS * sizes::ROW;
 
 // Ruled out: the row of a port; the largest overhead as the clock.
-pub fn stage_at(w: &Words) -> Stage
-    ensures { λ r. ⌜ r ≡ stage (rowsOf (now (w .entry))) ⌝ }
+pub fn component_at(w: &Words) -> Component
+    ensures { λ r. ⌜ r ≡ component (rowsOf (now (w .entry))) ⌝ }
 {
-    let b = STAGE * 8;
-    Stage {
+    let b = COMPONENT * sizes::ROW;
+    Component {
         classes: w[b + 0],
         clock: w[b + 1],
         overhead: w[b + 2],
     }
 }
 
-// Ruled out: a store into the row of a port; the overhead and the clock changed over.
-pub fn put_stage(w: &mut Words, x: Stage)
-    ensures { λ _. ⌜ rowsOf (now (w .exit)) ≡ withStage (rowsOf (now (w .entry))) x ⌝ }
+// The traffic classes alone: a start is taken.
+// Ruled out: a store into the row of a port; the classes as the clock.
+pub fn put_classes(w: &mut Words, n: u64)
+    ensures { λ _. ⌜ rowsOf (now (w .exit)) ≡ withClasses (rowsOf (now (w .entry))) n ⌝ }
 {
-    put_row(w, STAGE, x.classes, x.clock, x.overhead, 0, 0, 0, 0, 0);
+    put_word(w, COMPONENT, 0, n);
 }
 
-// Ruled out: the row of the stage for port 0; a port not set up because its word is neither 0 nor 1.
+// The clock alone.
+// Ruled out: a store into the row of a port; the time as the largest overhead.
+pub fn put_clock(w: &mut Words, t: u64)
+    ensures { λ _. ⌜ rowsOf (now (w .exit)) ≡ withClock (rowsOf (now (w .entry))) t ⌝ }
+{
+    put_word(w, COMPONENT, 1, t);
+}
+
+// The largest overhead alone.
+// Ruled out: a store into the row of a port; the overhead as the number of classes.
+pub fn put_overhead(w: &mut Words, n: u64)
+    ensures { λ _. ⌜ rowsOf (now (w .exit)) ≡ withOverhead (rowsOf (now (w .entry))) n ⌝ }
+{
+    put_word(w, COMPONENT, 2, n);
+}
+
+// Ruled out: the row of the component for port 0; a port not set up because its word is neither 0 nor 1.
 pub fn port_at(w: &Words, i: usize) -> Port
     ensures { λ r. ⌜ r ≡ port (rowsOf (now (w .entry))) i ⌝ }
 {
-    let b = (PORTS + i % 8) * 8;
+    let b = (PORTS + i % sizes::PORTS) * sizes::ROW;
     Port {
         set: w[b + 0] != 0,
-        overhead: w[b + 1],
+        overhead: (w[b + 1] % 256) as u8,
         discarded: w[b + 2],
     }
 }
 
-// Ruled out: a store into the row of the stage; the overhead as the number of discarded frames.
+// Ruled out: a store into the row of the component; the overhead as the number of discarded frames.
 pub fn put_port(w: &mut Words, i: usize, x: Port)
     ensures { λ _. ⌜ rowsOf (now (w .exit)) ≡ withPort (rowsOf (now (w .entry))) i x ⌝ }
 {
     put_row(
         w,
-        PORTS + i % 8,
+        PORTS + i % sizes::PORTS,
         x.set as u64,
-        x.overhead,
+        x.overhead as u64,
         x.discarded,
         0,
         0,
@@ -129,7 +160,7 @@ pub fn put_port(w: &mut Words, i: usize, x: Port)
 pub fn put_discarded(w: &mut Words, i: usize, n: u64)
     ensures { λ _. ⌜ rowsOf (now (w .exit)) ≡ withDiscarded (rowsOf (now (w .entry))) i n ⌝ }
 {
-    put_word(w, PORTS + i % 8, 2, n);
+    put_word(w, PORTS + i % sizes::PORTS, 2, n);
 }
 
 // The counters of filter `i`.
@@ -137,7 +168,7 @@ pub fn put_discarded(w: &mut Words, i: usize, n: u64)
 pub fn counters_at(w: &Words, i: usize) -> Counters
     ensures { λ r. ⌜ r ≡ counters (rowsOf (now (w .entry))) i ⌝ }
 {
-    let b = (COUNTERS + i % 64) * 8;
+    let b = (COUNTERS + i % sizes::FILTERS) * sizes::ROW;
     Counters {
         matching: w[b + 0],
         passing_sdu: w[b + 1],
@@ -149,30 +180,44 @@ pub fn counters_at(w: &Words, i: usize) -> Counters
     }
 }
 
-// Ruled out: a store into the row of a port; passing and not passing frames changed over.
-pub fn put_counters(w: &mut Words, i: usize, x: Counters)
-    ensures { λ _. ⌜ rowsOf (now (w .exit)) ≡ withCounters (rowsOf (now (w .entry))) i x ⌝ }
+// One more of what `c` counts of filter `i`. After 2^64 - 1 a counter goes to 0.
+// Ruled out: a store into the row of a scheduler; a counter that stays at 2^64 - 1.
+pub fn count(w: &mut Words, i: usize, c: Counter)
+    ensures { λ _. ⌜ rowsOf (now (w .exit)) ≡ bump (rowsOf (now (w .entry))) i c ⌝ }
 {
-    put_row(
-        w,
-        COUNTERS + i % 64,
-        x.matching,
-        x.passing_sdu,
-        x.not_passing_sdu,
-        x.passing,
-        x.not_passing,
-        x.red,
-        x.oversize as u64,
-        0,
-    );
+    let r = COUNTERS + i % sizes::FILTERS;
+    let k = place(c);
+    let n = w[r * sizes::ROW + k];
+    put_word(w, r, k, std::num::wrapping_add_u64(n, 1));
+}
+
+fn place(c: Counter) -> usize
+    ensures { λ r. ⌜ (r ≡ counterPlace c) × (r < rowWords) ⌝ }
+{
+    match c {
+        Counter::Matching => 0,
+        Counter::PassingSdu => 1,
+        Counter::NotPassingSdu => 2,
+        Counter::Passing => 3,
+        Counter::NotPassing => 4,
+        Counter::Red => 5,
+    }
+}
+
+// The oversize flag of filter `i` alone.
+// Ruled out: a store into the row of a scheduler; the flag as REDFrames.
+pub fn put_oversize(w: &mut Words, i: usize, flag: bool)
+    ensures { λ _. ⌜ rowsOf (now (w .exit)) ≡ withOversize (rowsOf (now (w .entry))) i flag ⌝ }
+{
+    put_word(w, COUNTERS + i % sizes::FILTERS, 6, flag as u64);
 }
 
 // Ruled out: the state of another gate; the octets flag read from the word of the other.
 pub fn gate_at(w: &Words, i: usize) -> Gate
     ensures { λ r. ⌜ r ≡ gate (rowsOf (now (w .entry))) i ⌝ }
 {
-    let b = (GATES + i % 16) * 8;
-    let q = (GATE_STATES + i % 16) * 8;
+    let b = (GATES + i % sizes::GATES) * sizes::ROW;
+    let q = (GATE_STATES + i % sizes::GATES) * sizes::ROW;
     Gate {
         opened: w[b + 1] != 0,
         ipv: (w[b + 2] % 256) as u8,
@@ -191,18 +236,22 @@ pub fn gate_at(w: &Words, i: usize) -> Gate
 pub fn gate_set(w: &Words, i: usize) -> bool
     ensures { λ r. ⌜ r ≡ gateIsSet (rowsOf (now (w .entry))) i ⌝ }
 {
-    let b = (GATES + i % 16) * 8;
+    let b = (GATES + i % sizes::GATES) * sizes::ROW;
     w[b + 0] != 0
 }
 
-// How many entries the list of gate `i` has. A word above 8, which no record writes, counts as 8.
+// How many entries the list of gate `i` has. A larger word, which no record writes, counts as a full list.
 // Ruled out: a ninth entry; the count of another gate.
 pub fn entries_at(w: &Words, i: usize) -> usize
     ensures { λ r. ⌜ r ≡ entries (rowsOf (now (w .entry))) i ⌝ }
 {
-    let b = (GATES + i % 16) * 8;
+    let b = (GATES + i % sizes::GATES) * sizes::ROW;
     let n = w[b + 6];
-    if n < 8 { n as usize } else { 8 }
+    if n < sizes::ENTRIES as u64 {
+        n as usize
+    } else {
+        sizes::ENTRIES
+    }
 }
 
 // The record of the gate is taken. Its state, and the count of its entries, which may have come first, stay.
@@ -218,11 +267,11 @@ pub fn set_up_gate(
 )
     ensures { λ _. ⌜ rowsOf (now (w .exit)) ≡ withGate (rowsOf (now (w .entry))) i opened ipv «invalid_receive_block» «octets_block» base ⌝ }
 {
-    let b = (GATES + i % 16) * 8;
+    let b = (GATES + i % sizes::GATES) * sizes::ROW;
     let n = w[b + 6];
     put_row(
         w,
-        GATES + i % 16,
+        GATES + i % sizes::GATES,
         1,
         opened as u64,
         ipv as u64,
@@ -239,7 +288,7 @@ pub fn set_up_gate(
 pub fn put_entries(w: &mut Words, i: usize, n: usize)
     ensures { λ _. ⌜ rowsOf (now (w .exit)) ≡ withEntries (rowsOf (now (w .entry))) i n ⌝ }
 {
-    put_word(w, GATES + i % 16, 6, n as u64);
+    put_word(w, GATES + i % sizes::GATES, 6, n as u64);
 }
 
 // The gate after a frame or a clear: its flags and its count.
@@ -249,7 +298,7 @@ pub fn put_gate_state(w: &mut Words, i: usize, x: Gate)
 {
     put_row(
         w,
-        GATE_STATES + i % 16,
+        GATE_STATES + i % sizes::GATES,
         x.invalid_receive_flag as u64,
         x.octets_flag as u64,
         x.since,
@@ -265,8 +314,8 @@ pub fn put_gate_state(w: &mut Words, i: usize, x: Gate)
 pub fn meter_at(w: &Words, i: usize) -> Meter
     ensures { λ r. ⌜ r ≡ meter (rowsOf (now (w .entry))) i ⌝ }
 {
-    let b = (METERS + i % 16) * 8;
-    let q = (METER_STATES + i % 16) * 8;
+    let b = (METERS + i % sizes::METERS) * sizes::ROW;
+    let q = (METER_STATES + i % sizes::METERS) * sizes::ROW;
     Meter {
         cir: Rate(w[b + 1]),
         cbs: Octets((w[b + 2] % 4_294_967_296) as u32),
@@ -288,7 +337,7 @@ pub fn meter_at(w: &Words, i: usize) -> Meter
 pub fn meter_set(w: &Words, i: usize) -> bool
     ensures { λ r. ⌜ r ≡ meterIsSet (rowsOf (now (w .entry))) i ⌝ }
 {
-    let b = (METERS + i % 16) * 8;
+    let b = (METERS + i % sizes::METERS) * sizes::ROW;
     w[b + 0] != 0
 }
 
@@ -299,7 +348,7 @@ pub fn set_up_meter(w: &mut Words, i: usize, x: Meter)
 {
     put_row(
         w,
-        METERS + i % 16,
+        METERS + i % sizes::METERS,
         1,
         x.cir.0,
         x.cbs.0 as u64,
@@ -319,7 +368,7 @@ pub fn put_meter_state(w: &mut Words, i: usize, x: Meter)
 {
     put_row(
         w,
-        METER_STATES + i % 16,
+        METER_STATES + i % sizes::METERS,
         x.committed,
         x.excess,
         x.last,
@@ -335,7 +384,7 @@ pub fn put_meter_state(w: &mut Words, i: usize, x: Meter)
 pub fn group_at(w: &Words, i: usize) -> Group
     ensures { λ r. ⌜ r ≡ group (rowsOf (now (w .entry))) i ⌝ }
 {
-    let b = (GROUPS + i % 16) * 8;
+    let b = (GROUPS + i % sizes::GROUPS) * sizes::ROW;
     Group {
         set: w[b + 0] != 0,
         residence: w[b + 1],
@@ -349,7 +398,7 @@ pub fn put_group(w: &mut Words, i: usize, x: Group)
 {
     put_row(
         w,
-        GROUPS + i % 16,
+        GROUPS + i % sizes::GROUPS,
         x.set as u64,
         x.residence,
         x.last,
@@ -366,14 +415,14 @@ pub fn put_group(w: &mut Words, i: usize, x: Group)
 pub fn put_group_last(w: &mut Words, i: usize, t: u64)
     ensures { λ _. ⌜ rowsOf (now (w .exit)) ≡ withGroupLast (rowsOf (now (w .entry))) i t ⌝ }
 {
-    put_word(w, GROUPS + i % 16, 2, t);
+    put_word(w, GROUPS + i % sizes::GROUPS, 2, t);
 }
 
 // Ruled out: the row of a group for scheduler 0; a burst cut to 16 bits.
 pub fn scheduler_at(w: &Words, i: usize) -> Scheduler
     ensures { λ r. ⌜ r ≡ scheduler (rowsOf (now (w .entry))) i ⌝ }
 {
-    let b = (SCHEDULERS + i % 32) * 8;
+    let b = (SCHEDULERS + i % sizes::SCHEDULERS) * sizes::ROW;
     Scheduler {
         rate: Rate(w[b + 2]),
         burst: Octets((w[b + 3] % 4_294_967_296) as u32),
@@ -387,7 +436,7 @@ pub fn scheduler_at(w: &Words, i: usize) -> Scheduler
 pub fn scheduler_set(w: &Words, i: usize) -> bool
     ensures { λ r. ⌜ r ≡ schedulerIsSet (rowsOf (now (w .entry))) i ⌝ }
 {
-    let b = (SCHEDULERS + i % 32) * 8;
+    let b = (SCHEDULERS + i % sizes::SCHEDULERS) * sizes::ROW;
     w[b + 0] != 0
 }
 
@@ -396,8 +445,8 @@ pub fn scheduler_set(w: &Words, i: usize) -> bool
 pub fn scheduler_group(w: &Words, i: usize) -> usize
     ensures { λ r. ⌜ r ≡ schedulerGroup (rowsOf (now (w .entry))) i ⌝ }
 {
-    let b = (SCHEDULERS + i % 32) * 8;
-    (w[b + 1] % 16) as usize
+    let b = (SCHEDULERS + i % sizes::SCHEDULERS) * sizes::ROW;
+    (w[b + 1] % sizes::GROUPS as u64) as usize
 }
 
 // The burst of scheduler `i`, in octets.
@@ -405,7 +454,7 @@ pub fn scheduler_group(w: &Words, i: usize) -> usize
 pub fn burst_at(w: &Words, i: usize) -> u64
     ensures { λ r. ⌜ r ≡ burst (rowsOf (now (w .entry))) i ⌝ }
 {
-    let b = (SCHEDULERS + i % 32) * 8;
+    let b = (SCHEDULERS + i % sizes::SCHEDULERS) * sizes::ROW;
     w[b + 3] % 4_294_967_296
 }
 
@@ -416,7 +465,7 @@ pub fn set_up_scheduler(w: &mut Words, i: usize, group: usize, x: Scheduler)
 {
     put_row(
         w,
-        SCHEDULERS + i % 32,
+        SCHEDULERS + i % sizes::SCHEDULERS,
         1,
         group as u64,
         x.rate.0,
@@ -433,17 +482,17 @@ pub fn set_up_scheduler(w: &mut Words, i: usize, group: usize, x: Scheduler)
 pub fn put_scheduler_state(w: &mut Words, i: usize, x: Scheduler)
     ensures { λ _. ⌜ rowsOf (now (w .exit)) ≡ withSchedulerState (rowsOf (now (w .entry))) i x ⌝ }
 {
-    put_word(w, SCHEDULERS + i % 32, 4, x.level);
-    put_word(w, SCHEDULERS + i % 32, 5, x.last);
+    put_word(w, SCHEDULERS + i % sizes::SCHEDULERS, 4, x.level);
+    put_word(w, SCHEDULERS + i % sizes::SCHEDULERS, 5, x.last);
 }
 
 // A whole row.
 fn put_row(w: &mut Words, r: usize, a: u64, b: u64, c: u64, d: u64, e: u64, f: u64, g: u64, h: u64)
-    requires { ⌜ r < 185 ⌝ }
+    requires { ⌜ r < bankRows ⌝ }
     ensures { λ _. ⌜ rowsOf (now (w .exit)) ≡ withRow (rowsOf (now (w .entry))) r (a ∷ b ∷ c ∷ d ∷ e ∷ f ∷ g ∷ h ∷ []) ⌝ }
 {
     known(w);
-    let at = r * 8;
+    let at = r * sizes::ROW;
     w[at + 0] = a;
     w[at + 1] = b;
     w[at + 2] = c;
@@ -456,11 +505,11 @@ fn put_row(w: &mut Words, r: usize, a: u64, b: u64, c: u64, d: u64, e: u64, f: u
 
 // The word `k` of a row.
 fn put_word(w: &mut Words, r: usize, k: usize, v: u64)
-    requires { ⌜ (r < 185) × (k < 8) ⌝ }
-    ensures { λ _. ⌜ rowsOf (now (w .exit)) ≡ withRow (rowsOf (now (w .entry))) r (set (rowsOf (now (w .entry)) r) k v) ⌝ }
+    requires { ⌜ (r < bankRows) × (k < rowWords) ⌝ }
+    ensures { λ _. ⌜ rowsOf (now (w .exit)) ≡ withWord (rowsOf (now (w .entry))) r k v ⌝ }
 {
     known(w);
-    w[r * 8 + k] = v;
+    w[r * sizes::ROW + k] = v;
 }
 
 // The array lent as a slice: its length is known from here on.

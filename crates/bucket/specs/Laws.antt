@@ -3,7 +3,7 @@ use mathlib.Core.Path.{_≡_, ap, subst, _∙_}
 use Prim.Native.Nat.{ℕ, _+_, _-_, _*_, _/_, _%_, _≤_, _<_, min}
 use native.Mathlib.Nat.{mul-add, mul-comm, add-mul, one-mul, mul-le-mul-left, mul-le-mul-right, mul-zero, mod-lt, div-add-mod', div-eq-of-lt-le, div-lt-iff-lt-mul, le-div-iff-mul-le, div-eq-of-lt, div-zero}
 use native.Mathlib.Omega.{arith}
-use Rattle.bucket.specs.Bucket.{grown, ceiling, waitFor}
+use Rattle.bucket.specs.Meaning.{grown, ceiling, waitFor}
 
 pub grown-cap : (l r c d : ℕ) → grown l r c d ≤ c
 grown-cap l r c d = omega arith

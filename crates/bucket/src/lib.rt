@@ -3,7 +3,7 @@
 // no fraction is ever lost (01, Meters; 01, Schedulers).
 ghost use mathlib.Core.Path.{_≡_};
 ghost use Prim.Native.Nat.{ℕ, _+_, _-_, _*_, _/_, _≤_, _<_, min};
-ghost use Rattle.bucket.specs.Bucket.{grown, waitFor, ceiling};
+ghost use Rattle.bucket.specs.Meaning.{grown, waitFor, ceiling};
 
 // Bits per second.
 pub struct Rate(pub u64);

@@ -1,25 +1,15 @@
 -- A rule of a table, proved at all of its places by one test that is computed at one place after the other.
 use Prim.Native.Nat.{ℕ, zero, suc, _<_}
-use mathlib.Core.Bool.{Bool, true, false}
-use mathlib.Core.Path.{_≡_, refl, ap, _∙_}
+use mathlib.Core.Bool.{Bool, true, _&&_}
+use mathlib.Core.Path.{_≡_, ap, _∙_}
 use mathlib.Core.Logic.{⊎-elim}
-use Rattle.class.specs.Table.{_and_}
+use Rattle.logic.specs.Laws.{and-left, and-right}
 use native.Mathlib.Nat.{not-suc-le-zero, eq-or-lt-of-le, le-of-suc-le-suc}
-
-pub and-left : (a b : Bool) → (a and b) ≡ true → a ≡ true
-unfolding _and_
-and-left true b e = refl
-and-left false b e = e
-
-pub and-right : (a b : Bool) → (a and b) ≡ true → b ≡ true
-unfolding _and_
-and-right true b e = e
-and-right false b e = cc
 
 -- the test holds at each number below `n`
 unfoldable pub every : (ℕ → Bool) → ℕ → Bool
 every test zero = true
-every test (suc n) = test n and every test n
+every test (suc n) = test n && every test n
 
 pub every-at : (test : ℕ → Bool) (n : ℕ) → every test n ≡ true → (k : ℕ) → k < n → test k ≡ true
 unfolding every

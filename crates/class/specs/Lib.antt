@@ -1,4 +1,4 @@
-pub mod Table
+pub mod Meaning
 pub mod Every
 pub mod Rules
 pub mod Worked

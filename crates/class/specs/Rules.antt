@@ -7,8 +7,9 @@ use native.Mathlib.Omega.{arith}
 use borrow.Author.Tests.{leb-true, ltb-true, eqb-true, le-leb}
 use lib.Dec.{leb, ltb, eqb}
 use lib.ListN.{getD}
-use Rattle.class.specs.Table.{classOf, rows, inTable, _and_}
-use Rattle.class.specs.Every.{every, every-at, and-left, and-right}
+use Rattle.class.specs.Meaning.{classAt, classRows, inTable}
+use Rattle.class.specs.Every.{every, every-at}
+use Rattle.logic.specs.Laws.{conjuncts}
 
 -- what the range test tells
 pub record InTable (priority classes : ℕ) : Type 0 where
@@ -18,8 +19,11 @@ pub record InTable (priority classes : ℕ) : Type 0 where
 
 pub in-table : (priority classes : ℕ) → inTable priority classes ≡ true → InTable priority classes
 in-table priority classes e =
-    let e₁ = and-left _ _ e in
-    record { priority-high = leb-true _ _ (and-left _ _ e₁); classes-low = leb-true _ _ (and-right _ _ e₁); classes-high = leb-true _ _ (and-right _ _ e) }
+    record {
+      priority-high = leb-true priority 7 (search conjuncts);
+      classes-low = leb-true 1 classes (search conjuncts);
+      classes-high = leb-true classes 8 (search conjuncts);
+    }
 
 -- place `k` of eight rows of eight: its row, and the count of classes of its column
 abbrev priorityAt : ℕ → ℕ
@@ -40,13 +44,13 @@ place-count priority classes low high = omega arith
 
 -- a class is one of those that there are
 below : ℕ → Bool
-below k = ltb (classOf (priorityAt k) (countAt k)) (countAt k)
+below k = ltb (classAt (priorityAt k) (countAt k)) (countAt k)
 
 all-below : every below 64 ≡ true
-unfolding every below rows _and_
+unfolding every below classRows
 all-below = refl
 
-pub class-below : (priority classes : ℕ) → InTable priority classes → classOf priority classes < classes
+pub class-below : (priority classes : ℕ) → InTable priority classes → classAt priority classes < classes
 unfolding below
 class-below priority classes k =
     let e = every-at below 64 all-below (placeOf priority classes) (omega arith) in
@@ -54,13 +58,13 @@ class-below priority classes k =
 
 -- the highest of them is that of priority 7
 highest : ℕ → Bool
-highest k = eqb (classOf 7 (k + 1)) k
+highest k = eqb (classAt 7 (k + 1)) k
 
 all-highest : every highest 8 ≡ true
-unfolding every highest rows _and_
+unfolding every highest classRows
 all-highest = refl
 
-pub class-highest : (classes : ℕ) → 1 ≤ classes → classes ≤ 8 → classOf 7 classes ≡ classes - 1
+pub class-highest : (classes : ℕ) → 1 ≤ classes → classes ≤ 8 → classAt 7 classes ≡ classes - 1
 unfolding highest
 class-highest classes low high =
     let count : classes - 1 + 1 ≡ classes = omega arith in
@@ -82,13 +86,13 @@ implied true b e h = e
 implied false b e h = cc
 
 ordered : ℕ → Bool
-ordered k = implies (leb (k / 64) (k / 8 % 8)) (leb (classOf (getD importance (k / 64) 0) (countAt k)) (classOf (getD importance (k / 8 % 8) 0) (countAt k)))
+ordered k = implies (leb (k / 64) (k / 8 % 8)) (leb (classAt (getD importance (k / 64) 0) (countAt k)) (classAt (getD importance (k / 8 % 8) 0) (countAt k)))
 
 all-ordered : every ordered 512 ≡ true
-unfolding every ordered rows implies _and_
+unfolding every ordered classRows implies
 all-ordered = refl
 
-pub class-ordered : (i j classes : ℕ) → i ≤ j → j ≤ 7 → 1 ≤ classes → classes ≤ 8 → classOf (getD importance i 0) classes ≤ classOf (getD importance j 0) classes
+pub class-ordered : (i j classes : ℕ) → i ≤ j → j ≤ 7 → 1 ≤ classes → classes ≤ 8 → classAt (getD importance i 0) classes ≤ classAt (getD importance j 0) classes
 unfolding ordered
 class-ordered i j classes less top low high =
     let k : ℕ = i * 64 + j * 8 + classes - 1 in

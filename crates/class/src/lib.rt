@@ -1,6 +1,6 @@
 // The traffic class of an internal priority: the standard's recommended mapping (01, A frame's path).
 ghost use mathlib.Core.Path.{_≡_};
-ghost use Rattle.class.specs.Table.{trafficClassOf};
+ghost use Rattle.class.specs.Meaning.{trafficClassOf};
 
 // A row for each priority 0 to 7, in it a class for each count of classes 1 to 8.
 const CLASSES: [[u8; 8]; 8] = [

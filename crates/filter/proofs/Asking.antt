@@ -27,7 +27,7 @@ use denote.Triple.Entry.{onEntry}
 use denote.Triple.Spec.{tripleOf}
 use denote.Triple.Clauses.{ensured, lasts}
 use Rattle.filter.specs.declared.Filter.{Filter}
-use Rattle.filter.specs.Filter.{rowOf}
+use Rattle.filter.specs.Meaning.{rowOf}
 use Rattle.filter.proofs.Filter as T
 use Rattle.filter.proofs.row_at as row-at
 

@@ -1,4 +1,4 @@
-pub mod Filter
+pub mod Meaning
 pub mod Laws
 pub mod Search
 pub mod Seek

@@ -6,8 +6,8 @@ ghost use mathlib.Core.Path.{_≡_};
 ghost use Prim.Native.Nat.{_+_};
 ghost use lib.Dec.{ltb};
 ghost use lib.ListN.{set};
-ghost use Rattle.bank.specs.Rows.{rowsOf};
-ghost use Rattle.filter.specs.Filter.{noRow, inRangeOf, isFilterOf, missingOf, tooSmallOf, countsOf, fitsOf, rowOf, answersOf, searchOf};
+ghost use Rattle.bank.specs.Meaning.{rowsOf};
+ghost use Rattle.filter.specs.Meaning.{noRow, rowInRange, isFilterOf, namesMissing, exceedsBurst, countsOf, fitsOf, rowOf, rowAnswers, searchOf};
 ghost use Rattle.filter.specs.Seek.{nearOf, passableOf, seekOf};
 
 // A row, as document 01's kind 2 has it but for the identifier, which is the row's place. All numbers: whatever a caller leaves in the
@@ -37,21 +37,34 @@ pub enum Asks {
     // Whether start refuses it with 7.
     Missing,
     // Whether start refuses it with 8.
-    TooSmall,
+    ExceedsBurst,
+    // Nothing: every row answers.
+    Any,
 }
 
-// A question on the places `from` up to and without `to`. Handle and priority are a frame's, and only `Fits` looks at them.
-pub struct Question {
-    pub from: usize,
-    pub to: usize,
-    pub asks: Asks,
+// What of a frame a row has to match.
+pub struct Key {
     pub handle: u32,
     pub priority: u8,
 }
 
-// The first row that answers, in ascending identifier; where none does, the place after the last one asked.
+// A question on the places `from` up to and without `to`. Only `Fits` looks at the key.
+pub struct Question {
+    pub from: usize,
+    pub to: usize,
+    pub asks: Asks,
+    pub key: Key,
+}
+
+// What a search found: no row, or a row and its place.
+pub enum Found {
+    Nothing,
+    At(usize, Filter),
+}
+
+// The first row that answers, in ascending identifier.
 // Ruled out: the last row that answers; a row for any handle passed over.
-pub fn search(table: &[Filter], bank: &Words, q: Question) -> usize
+pub fn search(table: &[Filter], bank: &Words, q: Question) -> Found
     ensures { λ r. ⌜ r ≡ searchOf (rowsOf (now (bank .entry))) q (now (table .entry)) ⌝ }
 {
     let to = q.to;
@@ -59,12 +72,24 @@ pub fn search(table: &[Filter], bank: &Words, q: Question) -> usize
     while i < to {
         let row = row_at(table, i);
         if answers(row, bank, q) {
-            return i;
+            return found_at(i, row);
         }
         let next = seek(table, q, i + 1);
         i = next;
     }
-    i
+    found_nothing()
+}
+
+fn found_at(i: usize, row: Filter) -> Found
+    ensures { λ r. ⌜ r ≡ Found.At i row ⌝ }
+{
+    Found::At(i, row)
+}
+
+fn found_nothing() -> Found
+    ensures { λ r. ⌜ r ≡ Found.Nothing ⌝ }
+{
+    Found::Nothing
 }
 
 // The first place from `from` on that a frame's handle does not rule out: a search passes most rows over here, after two loads each.
@@ -75,7 +100,7 @@ fn seek(table: &[Filter], q: Question, from: usize) -> usize
     let mut i = from;
     while i < end {
         let row = row_at(table, i);
-        if near(row, q.handle) {
+        if near(row, q.key.handle) {
             return i;
         }
         i += 1;
@@ -91,7 +116,8 @@ fn passable(q: Question, rows: usize) -> usize
     match asks {
         Asks::Fits => lesser(q.to, rows),
         Asks::Missing => 0,
-        Asks::TooSmall => 0,
+        Asks::ExceedsBurst => 0,
+        Asks::Any => 0,
     }
 }
 
@@ -132,29 +158,31 @@ pub fn put_row(table: &mut [Filter], place: usize, row: Filter)
 // Whether a row is what a question asks for. Whether it counts is asked last: most rows are ruled out before.
 // Ruled out: a row that names a missing gate used by a frame; a row that is no filter holding up start.
 pub fn answers(row: Filter, bank: &Words, q: Question) -> bool
-    ensures { λ r. ⌜ r ≡ answersOf (rowsOf (now (bank .entry))) q row ⌝ }
+    ensures { λ r. ⌜ r ≡ rowAnswers (rowsOf (now (bank .entry))) q row ⌝ }
 {
     let asks = q.asks;
     match asks {
         Asks::Fits => {
-            if fits(row, q.handle, q.priority) {
+            let key = q.key;
+            if fits(row, key) {
                 counts(row, bank)
             } else {
                 false
             }
         }
         Asks::Missing => is_filter(row) & missing(row, bank),
-        Asks::TooSmall => is_filter(row) & too_small(row, bank),
+        Asks::ExceedsBurst => is_filter(row) & exceeds_burst(row, bank),
+        Asks::Any => true,
     }
 }
 
 // Whether handle and priority of a frame match the row's.
 // Ruled out: any-handle taken for handle 0; priority 8 taken for a priority.
-pub fn fits(row: Filter, handle: u32, priority: u8) -> bool
-    ensures { λ r. ⌜ r ≡ fitsOf handle priority row ⌝ }
+pub fn fits(row: Filter, key: Key) -> bool
+    ensures { λ r. ⌜ r ≡ fitsOf key row ⌝ }
 {
-    ((row.any_handle == 1) | (row.handle == handle))
-        & ((row.priority == 8) | (row.priority == priority))
+    ((row.any_handle == 1) | (row.handle == key.handle))
+        & ((row.priority == 8) | (row.priority == key.priority))
 }
 
 // Whether a row counts after start; any other counts as empty.
@@ -162,7 +190,7 @@ pub fn fits(row: Filter, handle: u32, priority: u8) -> bool
 pub fn counts(row: Filter, bank: &Words) -> bool
     ensures { λ r. ⌜ r ≡ countsOf (rowsOf (now (bank .entry))) row ⌝ }
 {
-    is_filter(row) & !missing(row, bank) & !too_small(row, bank)
+    is_filter(row) & !missing(row, bank) & !exceeds_burst(row, bank)
 }
 
 // Whether there is a filter at a place, as the records before start see it.
@@ -192,42 +220,33 @@ pub fn empty() -> Filter
 }
 
 fn in_range(row: Filter) -> bool
-    ensures { λ r. ⌜ r ≡ inRangeOf row ⌝ }
+    ensures { λ r. ⌜ r ≡ rowInRange row ⌝ }
 {
     (row.any_handle <= 1)
         & ((row.any_handle == 0) | (row.handle == 0))
         & (row.priority <= 8)
-        & (row.gate <= 15)
+        & (row.gate <= sizes::LAST_GATE)
         & (row.max_sdu <= 2000)
         & (row.oversize_block <= 1)
-        & ((row.meter <= 15) | (row.meter == 255))
-        & ((row.scheduler <= 31) | (row.scheduler == 255))
+        & ((row.meter <= sizes::LAST_METER) | (row.meter == 255))
+        & ((row.scheduler <= sizes::LAST_SCHEDULER) | (row.scheduler == 255))
 }
 
 // 01, refusal 7.
 fn missing(row: Filter, bank: &Words) -> bool
-    ensures { λ r. ⌜ r ≡ missingOf (rowsOf (now (bank .entry))) row ⌝ }
+    ensures { λ r. ⌜ r ≡ namesMissing (rowsOf (now (bank .entry))) row ⌝ }
 {
     !bank::gate_set(bank, row.gate as usize)
         | ((row.meter != 255) & !bank::meter_set(bank, row.meter as usize))
         | ((row.scheduler != 255) & !bank::scheduler_set(bank, row.scheduler as usize))
 }
 
-// 01, refusal 8. A sum with an overhead that no port record gave could wrap, so the overhead is taken off the burst.
-fn too_small(row: Filter, bank: &Words) -> bool
-    ensures { λ r. ⌜ r ≡ tooSmallOf (rowsOf (now (bank .entry))) row ⌝ }
+// 01, refusal 8.
+fn exceeds_burst(row: Filter, bank: &Words) -> bool
+    ensures { λ r. ⌜ r ≡ exceedsBurst (rowsOf (now (bank .entry))) row ⌝ }
 {
     let burst = bank::burst_at(bank, row.scheduler as usize);
-    let stage = bank::stage_at(bank);
+    let component = bank::component_at(bank);
     (row.scheduler != 255)
-        & ((row.max_sdu == 0) | exceeds(row.max_sdu as u64, stage.overhead, burst))
-}
-
-fn exceeds(size: u64, overhead: u64, burst: u64) -> bool
-    ensures { λ r. ⌜ r ≡ ltb burst (size + overhead) ⌝ }
-{
-    if burst < overhead {
-        return true;
-    }
-    burst - overhead < size
+        & ((row.max_sdu == 0) | frame::exceeds(row.max_sdu, component.overhead, burst))
 }

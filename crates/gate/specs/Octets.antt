@@ -12,7 +12,7 @@ use Rattle.gate.specs.declared.InForce.{InForce}
 use Rattle.gate.specs.declared.InForce.the-variants.{Here}
 use Rattle.gate.specs.declared.Gate.{Gate}
 use Rattle.gate.specs.declared.Stepped.{Stepped}
-use Rattle.gate.specs.Meaning.{noLimit, spentOf, leftOf, inForceOf, stepOf, Frame, Ordered, next, within, octetsOf, passedIn}
+use Rattle.gate.specs.Meaning.{noLimit, spentOf, leftOf, inForceOf, gateStepOf, Frame, Ordered, next, inInterval, octetsPassed, passedIn}
 use Rattle.gate.specs.Cases.{spent-same, spent-other, here-same, Way, blocked, closed, exceeded, free, counted, step-way}
 use Rattle.gate.specs.Times.{lt-or, in-force-begun, in-force-constant}
 
@@ -39,7 +39,7 @@ way-since g h n t r begun old (counted f e l) = begun f e
 
 module _ (f : Found) (limited : f .entry .maximum ≡ noLimit → ⊥) where
   -- a frame in f's interval leaves what was left, less what passed
-  way-left : (g : Gate) (n : ℕ) (r : Stepped) → Way g (Here f) n r → leftOf (r .gate) f + octetsOf (r .outcome) n ≡ leftOf g f
+  way-left : (g : Gate) (n : ℕ) (r : Stepped) → Way g (Here f) n r → leftOf (r .gate) f + octetsPassed (r .outcome) n ≡ leftOf g f
   unfolding spentOf
   way-left g n r blocked = add-zero _
   way-left g n r closed = add-zero _
@@ -54,18 +54,18 @@ module _ (f : Found) (limited : f .entry .maximum ≡ noLimit → ⊥) where
       omega arith
 
   module _ (es : List Entry) where
-    pub step-left : (g : Gate) (t n : ℕ) → inForceOf es (g .base) t ≡ Here f → leftOf (stepOf g es t n .gate) f + octetsOf (stepOf g es t n .outcome) n ≡ leftOf g f
+    pub step-left : (g : Gate) (t n : ℕ) → inForceOf es (g .base) t ≡ Here f → leftOf (gateStepOf g es t n .gate) f + octetsPassed (gateStepOf g es t n .outcome) n ≡ leftOf g f
     step-left g t n e = way-left g n _ (rw e at (step-way g es t n))
 
     -- ---- runs
 
-    within-early : (t : ℕ) → t < f .start → within f t ≡ false
+    within-early : (t : ℕ) → t < f .start → inInterval f t ≡ false
     within-early t h = rw (lt-ltb t (f .start) h)
 
-    within-inside : (t : ℕ) → f .start ≤ t → t < f .start + f .entry .interval → within f t ≡ true
+    within-inside : (t : ℕ) → f .start ≤ t → t < f .start + f .entry .interval → inInterval f t ≡ true
     within-inside t b l = rw (le-ltb t (f .start) b, lt-ltb t (f .start + f .entry .interval) l)
 
-    within-past : (t : ℕ) → f .start + f .entry .interval ≤ t → within f t ≡ false
+    within-past : (t : ℕ) → f .start + f .entry .interval ≤ t → inInterval f t ≡ false
     within-past t h = let b : f .start ≤ t = omega arith in rw (le-ltb t (f .start) b, le-ltb t (f .start + f .entry .interval) h)
 
     passed-past : (g : Gate) (u : ℕ) (frames : List Frame) → f .start + f .entry .interval ≤ u → Ordered u frames → passedIn f g es frames ≡ 0
@@ -73,7 +73,7 @@ module _ (f : Found) (limited : f .entry .maximum ≡ noLimit → ⊥) where
     passed-past g u [] h o = refl
     passed-past g u (a ∷ more) h (next l o) =
         let w = within-past (a .time) (omega arith) in
-        rw (w, zero-add) (passed-past (stepOf g es (a .time) (a .octets) .gate) (a .time) more (omega arith) o)
+        rw (w, zero-add) (passed-past (gateStepOf g es (a .time) (a .octets) .gate) (a .time) more (omega arith) o)
 
     -- f being in force from its start on, no more octets pass in its interval than are left in it
     pub passed-at-most-left : (g : Gate) (u : ℕ) (frames : List Frame) → inForceOf es (g .base) (f .start) ≡ Here f → g .since ≤ u → Ordered u frames → passedIn f g es frames ≤ leftOf g f
@@ -81,7 +81,7 @@ module _ (f : Found) (limited : f .entry .maximum ≡ noLimit → ⊥) where
     passed-at-most-left g u [] is old o = omega arith
     passed-at-most-left g u (a ∷ more) is old (next l o) =
         let t = a .time in
-        let g′ = stepOf g es t (a .octets) .gate in
+        let g′ = gateStepOf g es t (a .octets) .gate in
         let way = step-way g es t (a .octets) in
         let is′ : inForceOf es (g′ .base) (f .start) ≡ Here f = rw (way-base g _ _ _ way) is in
         let old′ : g′ .since ≤ t = way-since g _ _ t _ (λ f′ e. in-force-begun es (g .base) t f′ e) (omega arith) way in

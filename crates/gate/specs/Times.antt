@@ -11,9 +11,10 @@ use lib.ListN.{length, getD}
 use Rattle.gate.specs.declared.Entry.{Entry}
 use Rattle.gate.specs.declared.Found.{Found}
 use Rattle.gate.specs.declared.InForce.the-variants.{Nothing, Here}
-use Rattle.gate.specs.Meaning.{entryOf, entriesFrom, countOf, entriesOf, cycleOf, foundOf, inForceOf}
+use Rattle.gate.specs.Meaning.{entryAt, entriesFrom, entriesIn, entriesOf, cycleOf, foundOf, inForceOf}
 use Rattle.gate.specs.Walk.{in-force-early, in-force-later}
 use Rattle.gate.specs.Cases.{here-same}
+use Rattle.sizes.specs.Meaning.{entryOctets}
 
 abbrev pub noEntry : Entry
 noEntry = record { opened = false; ipv = 0; interval = 0; maximum = 0 }
@@ -34,14 +35,14 @@ pub record Within (es : List Entry) (x k : ℕ) : Type 0 where
   pub lasts : x < beforeOf es k + entryNo es k .interval
 
 -- when the k-th interval begins in the q-th cycle
-abbrev pub startOf : List Entry → ℕ → ℕ → ℕ → ℕ
-startOf es base q k = base + q * cycleOf es + beforeOf es k
+abbrev pub beginsOf : List Entry → ℕ → ℕ → ℕ → ℕ
+beginsOf es base q k = base + q * cycleOf es + beforeOf es k
 
 -- t falls in the k-th interval of the q-th cycle
 pub record Holds (es : List Entry) (base t q k : ℕ) : Type 0 where
   pub there : k < length es
-  pub begun : startOf es base q k ≤ t
-  pub lasts : t < startOf es base q k + entryNo es k .interval
+  pub begun : beginsOf es base q k ≤ t
+  pub lasts : t < beginsOf es base q k + entryNo es k .interval
 
 -- ---- within one cycle
 
@@ -105,10 +106,10 @@ module _ (es : List Entry) (base t : ℕ) where
       ((t - base) / c, w .0, record { there = w .1 .there; begun = omega (arith, d, w .1 .begun); lasts = omega (arith, d, w .1 .lasts) })
 
   -- and it is the one that is given, with the start of its interval
-  pub holds-in-force : (q k : ℕ) → Holds es base t q k → inForceOf es base t ≡ Here (record { index = k; start = startOf es base q k; entry = entryNo es k })
+  pub holds-in-force : (q k : ℕ) → Holds es base t q k → inForceOf es base t ≡ Here (record { index = k; start = beginsOf es base q k; entry = entryNo es k })
   holds-in-force q k h =
       let c = cycleOf es in
-      let y = t - startOf es base q k in
+      let y = t - beginsOf es base q k in
       let i = inside es k (h .there) in
       let split : t - base ≡ q * c + (beforeOf es k + y) = omega (arith, h .begun) in
       let small : beforeOf es k + y < c = omega (arith, i, h .begun, h .lasts) in
@@ -117,24 +118,24 @@ module _ (es : List Entry) (base t : ℕ) where
       (ap (λ (n : ℕ). Here (record { index = k; start = n; entry = entryNo es k })) (omega (arith, h .begun)))
 
   -- there is no other
-  pub holds-once : (q k q′ k′ : ℕ) → Holds es base t q k → Holds es base t q′ k′ → (k ≡ k′) × (startOf es base q k ≡ startOf es base q′ k′)
+  pub holds-once : (q k q′ k′ : ℕ) → Holds es base t q k → Holds es base t q′ k′ → (k ≡ k′) × (beginsOf es base q k ≡ beginsOf es base q′ k′)
   holds-once q k q′ k′ h h′ =
       let j = here-same _ _ (sym (holds-in-force q k h) ∙ holds-in-force q′ k′ h′) in
       (ap (λ (f : Found). f .index) j, ap (λ (f : Found). f .start) j)
 
   -- exactly one entry, in one interval of one cycle, is in force at each time from the base time on
   pub in-force-one : base ≤ t → 0 < cycleOf es
-      → (f : Found) × (inForceOf es base t ≡ Here f) × ((q : ℕ) × Holds es base t q (f .index)) × ((q k : ℕ) → Holds es base t q k → (k ≡ f .index) × (startOf es base q k ≡ f .start))
+      → (f : Found) × (inForceOf es base t ≡ Here f) × ((q : ℕ) × Holds es base t q (f .index)) × ((q k : ℕ) → Holds es base t q k → (k ≡ f .index) × (beginsOf es base q k ≡ f .start))
   in-force-one b p =
       let w = holds-some b p in
-      (record { index = w .1; start = startOf es base (w .0) (w .1); entry = entryNo es (w .1) }, holds-in-force (w .0) (w .1) (w .2), (w .0, w .2), λ q k h. holds-once q k (w .0) (w .1) h (w .2))
+      (record { index = w .1; start = beginsOf es base (w .0) (w .1); entry = entryNo es (w .1) }, holds-in-force (w .0) (w .1) (w .2), (w .0, w .2), λ q k h. holds-once q k (w .0) (w .1) h (w .2))
 
   -- nothing is ever in force where no interval has a length
   pub in-force-empty : cycleOf es ≡ 0 → inForceOf es base t ≡ Nothing
   in-force-empty h = lt-or t base (λ l. in-force-early es base t l) (λ l. in-force-later es base t l ∙ found-zero t es 0 _ h)
 
   -- what is given holds
-  pub in-force-holds : (f : Found) → inForceOf es base t ≡ Here f → (q : ℕ) × (k : ℕ) × Holds es base t q k × (f ≡ record { index = k; start = startOf es base q k; entry = entryNo es k })
+  pub in-force-holds : (f : Found) → inForceOf es base t ≡ Here f → (q : ℕ) × (k : ℕ) × Holds es base t q k × (f ≡ record { index = k; start = beginsOf es base q k; entry = entryNo es k })
   in-force-holds f e =
       let never : inForceOf es base t ≡ Nothing → ⊥ = λ n. let z : _≡_ {A = ℕ} 0 1 = cc in omega arith in
       let late : base ≤ t = lt-or t base (λ l. absurd (never (in-force-early es base t l))) (λ l. l) in
@@ -190,26 +191,26 @@ unfolding entriesFrom
 entries-length s i zero = refl
 entries-length s i (suc n) = ap suc (entries-length s (suc i) n)
 
-entries-no : (s : List ℕ) (i n k : ℕ) → k < n → entryNo (entriesFrom s i n) k ≡ entryOf s (i + k)
+entries-no : (s : List ℕ) (i n k : ℕ) → k < n → entryNo (entriesFrom s i n) k ≡ entryAt s (i + k)
 unfolding entriesFrom
 entries-no s i zero k h = absurd (omega arith)
-entries-no s i (suc n) zero h = ap (entryOf s) (sym (add-zero i))
-entries-no s i (suc n) (suc k) h = entries-no s (suc i) n k (omega arith) ∙ ap (entryOf s) (omega arith)
+entries-no s i (suc n) zero h = ap (entryAt s) (sym (add-zero i))
+entries-no s i (suc n) (suc k) h = entries-no s (suc i) n k (omega arith) ∙ ap (entryAt s) (omega arith)
 
 -- the entry in force is a whole one of the list, and what its octets say
 module _ (s : List ℕ) (base t : ℕ) (f : Found) (e : inForceOf (entriesOf s) base t ≡ Here f) where
-  pub in-force-whole : f .index * 11 + 11 ≤ length s
+  pub in-force-whole : f .index * entryOctets + entryOctets ≤ length s
   in-force-whole =
       let w = in-force-holds (entriesOf s) base t f e in
       let k = ap (λ (x : Found). x .index) (w .3) in
       let h = w .2 .there in
-      let n = entries-length s 0 (countOf s) in
+      let n = entries-length s 0 (entriesIn s) in
       omega arith
 
-  pub in-force-entry : f .entry ≡ entryOf s (f .index)
+  pub in-force-entry : f .entry ≡ entryAt s (f .index)
   in-force-entry =
       let w = in-force-holds (entriesOf s) base t f e in
       let k = ap (λ (x : Found). x .index) (w .3) in
       let h = w .2 .there in
-      let n = entries-length s 0 (countOf s) in
-      ap (λ (x : Found). x .entry) (w .3) ∙ entries-no s 0 (countOf s) (w .1) (omega arith) ∙ ap (entryOf s) (zero-add (w .1) ∙ sym k)
+      let n = entries-length s 0 (entriesIn s) in
+      ap (λ (x : Found). x .entry) (w .3) ∙ entries-no s 0 (entriesIn s) (w .1) (omega arith) ∙ ap (entryAt s) (zero-add (w .1) ∙ sym k)

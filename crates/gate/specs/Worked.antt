@@ -8,7 +8,7 @@ use Rattle.gate.specs.declared.Entry.{Entry}
 use Rattle.gate.specs.declared.InForce.{InForce}
 use Rattle.gate.specs.declared.InForce.the-variants.{Nothing, Here}
 use Rattle.gate.specs.declared.Gate.{Gate}
-use Rattle.gate.specs.Meaning.{entriesFrom, entriesOf, cycleOf, foundOf, inForceOf, numberOf, noLimit, spentOf, leftOf, limitedOf, passedOf, stepOf, Frame, afterOf}
+use Rattle.gate.specs.Meaning.{entriesFrom, entriesOf, cycleOf, foundOf, inForceOf, gateNumberOf, noLimit, spentOf, leftOf, limitedOf, passedOf, gateStepOf, Frame, gateAfter}
 
 -- a frame's drop number, 0 where it passes, and the octets then left in the interval of its time, noLimit where there is no limit
 pub record Row : Type 0 where
@@ -22,9 +22,9 @@ abbrev pub leftIn : Gate → InForce → ℕ
 leftIn g Nothing = noLimit
 leftIn g (Here f) = cond (eqb (f .entry .maximum) noLimit) noLimit (leftOf g f)
 
-unfoldable pub rowsOf : Gate → List Entry → List Frame → List Row
-rowsOf g es [] = []
-rowsOf g es (a ∷ more) = let r = stepOf g es (a .time) (a .octets) in row (numberOf (r .outcome)) (leftIn (r .gate) (inForceOf es (g .base) (a .time))) ∷ rowsOf (r .gate) es more
+unfoldable pub figuresOf : Gate → List Entry → List Frame → List Row
+figuresOf g es [] = []
+figuresOf g es (a ∷ more) = let r = gateStepOf g es (a .time) (a .octets) in row (gateNumberOf (r .outcome)) (leftIn (r .gate) (inForceOf es (g .base) (a .time))) ∷ figuresOf (r .gate) es more
 
 -- ---- the gate, and its list as octets
 abbrev pub figureGate : Gate
@@ -48,7 +48,7 @@ at t n = record { time = t; octets = n }
 
 -- ---- the cases, each after the frames of those before it
 abbrev pub CaseOf : List Frame → List Frame → List Row → Type 0
-CaseOf earlier frames rows = rowsOf (afterOf figureGate (entriesOf figureList) earlier) (entriesOf figureList) frames ≡ rows
+CaseOf earlier frames rows = figuresOf (gateAfter figureGate (entriesOf figureList) earlier) (entriesOf figureList) frames ≡ rows
 
 abbrev pub framesF : List Frame
 framesF = at 4999 2000 ∷ []
@@ -86,5 +86,5 @@ abbrev pub CaseAgain : Type 0
 CaseAgain = CaseOf (framesF ++ framesG ++ framesH ++ framesI) framesAgain (row 0 600 ∷ row 5 600 ∷ row 0 0 ∷ [])
 
 pub figures : CaseF × CaseG × CaseH × CaseI × CaseAgain
-unfolding entriesFrom cycleOf foundOf inForceOf spentOf limitedOf passedOf stepOf afterOf rowsOf
+unfolding entriesFrom cycleOf foundOf inForceOf spentOf limitedOf passedOf gateStepOf gateAfter figuresOf
 figures = (refl, refl, refl, refl, refl)

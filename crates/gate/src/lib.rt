@@ -5,8 +5,8 @@
 ghost use mathlib.Core.Path.{_≡_};
 ghost use Prim.Native.Nat.{_+_, _-_, _*_, _%_, _<_, _≤_};
 ghost use lib.ListN.{length};
-ghost use Rattle.gate.specs.Meaning.{wordOf, entryOf, entriesOf, cycleOf, foundOf, inForceOf};
-ghost use Rattle.gate.specs.Meaning.{numberOf, spentOf, closedOf, limitedOf, passedOf, stepOf};
+ghost use Rattle.sizes.specs.Meaning.{entryOctets};
+ghost use Rattle.gate.specs.Meaning.{wordOf, entryAt, entriesOf, cycleOf, foundOf, inForceOf, gateNumberOf, spentOf, closedOf, limitedOf, passedOf, gateStepOf};
 
 // A gate as its record sets it up (01, kind 3), with its flags and its count. All zeros but for the record's fields is a
 // fresh gate.
@@ -62,7 +62,7 @@ pub struct Stepped {
 // A frame of `msdu` octets that reaches the gate at `time`: what it gets, and the gate after it.
 // Ruled out: a frame of just the octets left is dropped; a closed gate also sets the octets flag.
 pub fn step(gate: Gate, list: &[u8], time: u64, msdu: u64) -> Stepped
-    ensures { λ r. ⌜ r ≡ stepOf gate (entriesOf (now (list .entry))) time msdu ⌝ }
+    ensures { λ r. ⌜ r ≡ gateStepOf gate (entriesOf (now (list .entry))) time msdu ⌝ }
 {
     if gate.invalid_receive_flag | gate.octets_flag {
         Stepped {
@@ -79,7 +79,7 @@ pub fn step(gate: Gate, list: &[u8], time: u64, msdu: u64) -> Stepped
 // The drop number of document 01, 0 for a frame that passes.
 // Ruled out: 3 for a closed gate; 5 for a flag that stands.
 pub fn number(outcome: Outcome) -> u8
-    ensures { λ r. ⌜ r ≡ numberOf outcome ⌝ }
+    ensures { λ r. ⌜ r ≡ gateNumberOf outcome ⌝ }
 {
     match outcome {
         Outcome::Passed(_) => 0,
@@ -190,8 +190,8 @@ fn cycle(list: &[u8]) -> u64
 {
     let mut sum: u64 = 0;
     let mut i: usize = 0;
-    while i < 8 {
-        if list.len() < i * 11 + 11 {
+    while i < sizes::ENTRIES {
+        if list.len() < i * sizes::ENTRY + sizes::ENTRY {
             return sum;
         }
         sum += interval_at(list, i);
@@ -218,8 +218,8 @@ fn find(list: &[u8], time: u64, offset: u64) -> InForce
 {
     let mut x = offset;
     let mut i: usize = 0;
-    while i < 8 {
-        if list.len() < i * 11 + 11 {
+    while i < sizes::ENTRIES {
+        if list.len() < i * sizes::ENTRY + sizes::ENTRY {
             return InForce::Nothing;
         }
         let interval = interval_at(list, i);
@@ -237,10 +237,10 @@ fn find(list: &[u8], time: u64, offset: u64) -> InForce
 }
 
 fn entry_at(list: &[u8], i: usize) -> Entry
-    requires { ⌜ i * 11 + 11 ≤ length (now list) ⌝ }
-    ensures { λ r. ⌜ r ≡ entryOf (now (list .entry)) i ⌝ }
+    requires { ⌜ i * entryOctets + entryOctets ≤ length (now list) ⌝ }
+    ensures { λ r. ⌜ r ≡ entryAt (now (list .entry)) i ⌝ }
 {
-    let at = i * 11;
+    let at = i * sizes::ENTRY;
     Entry {
         opened: list[at + 1] != 0,
         ipv: list[at + 2],
@@ -250,10 +250,10 @@ fn entry_at(list: &[u8], i: usize) -> Entry
 }
 
 fn interval_at(list: &[u8], i: usize) -> u64
-    requires { ⌜ i * 11 + 11 ≤ length (now list) ⌝ }
-    ensures { λ r. ⌜ (r ≡ entryOf (now (list .entry)) i .interval) × (r < 4_294_967_296) ⌝ }
+    requires { ⌜ i * entryOctets + entryOctets ≤ length (now list) ⌝ }
+    ensures { λ r. ⌜ (r ≡ entryAt (now (list .entry)) i .interval) × (r < 4_294_967_296) ⌝ }
 {
-    let at = i * 11;
+    let at = i * sizes::ENTRY;
     word(list, at + 3)
 }
 

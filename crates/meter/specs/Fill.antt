@@ -4,7 +4,7 @@ use mathlib.Core.Bool.{Bool, true, false}
 use mathlib.Core.Path.{_≡_}
 use native.Mathlib.Omega.{arith}
 use Rattle.meter.specs.declared.Meter.{Meter}
-use Rattle.meter.specs.Meter.{filledOf, holding, committedOf, excessOf, spilt}
+use Rattle.meter.specs.Meaning.{filledOf, meterHolding, committedOf, excessOf, spilt}
 
 pub spilt-less : (coupling : Bool) (over : ℕ) → spilt coupling over ≤ over
 spilt-less true over = omega arith
@@ -26,6 +26,6 @@ module _ (C c E x gain : ℕ) (gained : gain ≡ min (C + E) (0 + x)) where
       core E e y own over over′ owned h = omega arith
   fill-excess false e y own owned = omega arith
 
-pub filled-is : (m : Meter) (time committed excess : ℕ) → committed ≡ committedOf m (time - m .last) → excess ≡ excessOf m (time - m .last) → holding m committed excess time (m .«red_flag») ≡ filledOf m time
+pub filled-is : (m : Meter) (time committed excess : ℕ) → committed ≡ committedOf m (time - m .last) → excess ≡ excessOf m (time - m .last) → meterHolding m committed excess time (m .«red_flag») ≡ filledOf m time
 unfolding filledOf
 filled-is m time committed excess e₁ e₂ = cc

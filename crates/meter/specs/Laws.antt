@@ -1,18 +1,19 @@
 -- What holds of every step of a meter: what later proofs cite.
 use Prim.Native.Nat.{ℕ, _+_, _-_, _*_, _≤_, _<_, _^_, min}
-use mathlib.Core.Bool.{Bool, true, false}
+use mathlib.Core.Bool.{Bool, true, false, cond}
 use mathlib.Core.Path.{_≡_, refl}
 use native.Mathlib.Nat.{mul-add}
 use native.Mathlib.Omega.{arith}
 use borrow.Author.Tests.{leb-true, leb-false}
 use lib.Dec.{leb}
-use Rattle.bucket.specs.Bucket.{grains}
+use Rattle.logic.specs.Laws.{contrary}
+use Rattle.bucket.specs.Meaning.{grains}
 use Rattle.bucket.specs.declared.Rate.{Rate}
 use Rattle.bucket.specs.declared.Octets.{Octets}
 use Rattle.meter.specs.declared.Meter.{Meter}
 use Rattle.meter.specs.declared.Metered.{Metered}
 use Rattle.meter.specs.declared.Outcome.the-variants.{Red, OutOfRange, TooEarly}
-use Rattle.meter.specs.Meter.{freshOf, holding, spilt, filledOf, paintedOf, colourOf, inRangeOf, green, yellow, red, stopped, refused, yellowOf, numberOf, pick}
+use Rattle.meter.specs.Meaning.{freshMeterOf, meterHolding, spilt, filledOf, paintedOf, colourOf, meterInRange, paintedGreen, paintedYellow, paintedRed, paintedStopped, meterRefused, yellowOutcome, meterNumberOf}
 use Rattle.meter.specs.Range.{Sound, InRange, in-range, in-range-back}
 use Rattle.meter.specs.Cases.{takes}
 
@@ -43,26 +44,23 @@ filled-twice m t₁ t₂ h₁ h₂ =
     rw (d, x, y)
     (cc (committed-twice C (m .committed) x₁ x₂, excess-twice (grains (m .ebs .0)) (m .excess) (m .eir .0 * (t₁ - m .last)) (m .eir .0 * (t₂ - t₁)) _ _ _ o))
 
-never : (b : Bool) → b ≡ false → b ≡ true → ⊥
-never b f g = let z : _≡_ {A = ℕ} 0 1 = cc in omega arith
-
-yellow-passes : (dropped : Bool) → numberOf (yellowOf dropped) ≡ 3 → ⊥
+yellow-passes : (dropped : Bool) → meterNumberOf (yellowOutcome dropped) ≡ 3 → ⊥
 yellow-passes true n = omega arith
 yellow-passes false n = omega arith
 
-yellow-passes-9 : (dropped : Bool) → numberOf (yellowOf dropped) ≡ 9 → ⊥
+yellow-passes-9 : (dropped : Bool) → meterNumberOf (yellowOutcome dropped) ≡ 9 → ⊥
 yellow-passes-9 true n = omega arith
 yellow-passes-9 false n = omega arith
 
 -- every way out of a step: what holds of each of these holds of every step
 pub data Coloured (m : Meter) (time : ℕ) (msdu : Octets) (eligible : Bool) : Metered → Type 0 where
-  out-of-range : inRangeOf m time msdu ≡ false → Coloured m time msdu eligible (refused m OutOfRange)
-  too-early : InRange m time msdu → time < m .last → Coloured m time msdu eligible (refused m TooEarly)
-  flagged : InRange m time msdu → m .last ≤ time → m .«red_flag» ≡ true → Coloured m time msdu eligible (stopped (filledOf m time))
-  greened : InRange m time msdu → m .last ≤ time → m .«red_flag» ≡ false → takes (filledOf m time) (grains (msdu .0)) eligible ≡ true → Coloured m time msdu eligible (green (filledOf m time) (grains (msdu .0)))
+  out-of-range : meterInRange m time msdu ≡ false → Coloured m time msdu eligible (meterRefused m OutOfRange)
+  too-early : InRange m time msdu → time < m .last → Coloured m time msdu eligible (meterRefused m TooEarly)
+  flagged : InRange m time msdu → m .last ≤ time → m .«red_flag» ≡ true → Coloured m time msdu eligible (paintedStopped (filledOf m time))
+  greened : InRange m time msdu → m .last ≤ time → m .«red_flag» ≡ false → takes (filledOf m time) (grains (msdu .0)) eligible ≡ true → Coloured m time msdu eligible (paintedGreen (filledOf m time) (grains (msdu .0)))
   yellowed : InRange m time msdu → m .last ≤ time → m .«red_flag» ≡ false → takes (filledOf m time) (grains (msdu .0)) eligible ≡ false → grains (msdu .0) ≤ filledOf m time .excess
-      → Coloured m time msdu eligible (yellow (filledOf m time) (grains (msdu .0)))
-  reddened : InRange m time msdu → m .last ≤ time → m .«red_flag» ≡ false → takes (filledOf m time) (grains (msdu .0)) eligible ≡ false → filledOf m time .excess < grains (msdu .0) → Coloured m time msdu eligible (red (filledOf m time))
+      → Coloured m time msdu eligible (paintedYellow (filledOf m time) (grains (msdu .0)))
+  reddened : InRange m time msdu → m .last ≤ time → m .«red_flag» ≡ false → takes (filledOf m time) (grains (msdu .0)) eligible ≡ false → filledOf m time .excess < grains (msdu .0) → Coloured m time msdu eligible (paintedRed (filledOf m time))
 
 module _ (m : Meter) (time : ℕ) (msdu : Octets) (eligible : Bool) where
   abbrev filled : Meter
@@ -72,14 +70,14 @@ module _ (m : Meter) (time : ℕ) (msdu : Octets) (eligible : Bool) where
   need = grains (msdu .0)
 
   painted-is : InRange m time msdu → m .last ≤ time → (flag taken enough : Bool) → m .«red_flag» ≡ flag → takes filled need eligible ≡ taken → leb need (filled .excess) ≡ enough
-      → Coloured m time msdu eligible (pick flag (stopped filled) (pick taken (green filled need) (pick enough (yellow filled need) (red filled))))
+      → Coloured m time msdu eligible (cond flag (paintedStopped filled) (cond taken (paintedGreen filled need) (cond enough (paintedYellow filled need) (paintedRed filled))))
   painted-is k l true taken enough e e₁ e₂ = flagged k l e
   painted-is k l false true enough e e₁ e₂ = greened k l e e₁
   painted-is k l false false true e e₁ e₂ = yellowed k l e e₁ (leb-true _ _ e₂)
   painted-is k l false false false e e₁ e₂ = reddened k l e e₁ (leb-false _ _ e₂)
 
-  taken-is : (ranged later : Bool) → inRangeOf m time msdu ≡ ranged → leb (m .last) time ≡ later
-      → Coloured m time msdu eligible (pick ranged (pick later (paintedOf filled need eligible) (refused m TooEarly)) (refused m OutOfRange))
+  taken-is : (ranged later : Bool) → meterInRange m time msdu ≡ ranged → leb (m .last) time ≡ later
+      → Coloured m time msdu eligible (cond ranged (cond later (paintedOf filled need eligible) (meterRefused m TooEarly)) (meterRefused m OutOfRange))
   unfolding paintedOf filledOf
   taken-is true true e e₁ = painted-is (in-range m time msdu e) (leb-true _ _ e₁) _ _ _ refl refl refl
   taken-is true false e e₁ = too-early (in-range m time msdu e) (leb-false _ _ e₁)
@@ -102,7 +100,7 @@ filled-sound m time k h = record {
   last-high = h;
 }
 
-holding-sound : (m : Meter) (committed excess : ℕ) (flag : Bool) → Sound m → committed ≤ m .committed → excess ≤ m .excess → Sound (holding m committed excess (m .last) flag)
+holding-sound : (m : Meter) (committed excess : ℕ) (flag : Bool) → Sound m → committed ≤ m .committed → excess ≤ m .excess → Sound (meterHolding m committed excess (m .last) flag)
 holding-sound m committed excess flag k h h′ = record {
   cbs-high = k .cbs-high;
   ebs-high = k .ebs-high;
@@ -114,7 +112,7 @@ holding-sound m committed excess flag k h h′ = record {
 }
 
 pub fresh-sound : (cir : Rate) (cbs : Octets) (eir : Rate) (ebs : Octets) (coupling aware dropping block : Bool) → cir .0 ≤ 10_000_000_000 → cbs .0 ≤ 1_000_000 → eir .0 ≤ 10_000_000_000 → ebs .0 ≤ 1_000_000
-    → Sound (freshOf cir cbs eir ebs coupling aware dropping block)
+    → Sound (freshMeterOf cir cbs eir ebs coupling aware dropping block)
 fresh-sound cir cbs eir ebs coupling aware dropping block h₁ h₂ h₃ h₄ = record {
   cbs-high = h₂;
   ebs-high = h₄;
@@ -145,14 +143,14 @@ module _ {m : Meter} {time : ℕ} {msdu : Octets} {eligible : Bool} where
 
   flag-red : {r : Metered} → Coloured m time msdu eligible r → m .«red_flag» ≡ false → r .meter .«red_flag» ≡ true → (m .«red_block» ≡ true) × (r .outcome ≡ Red)
   unfolding filledOf
-  flag-red (out-of-range e) f g = absurd (never _ f g)
-  flag-red (too-early k h) f g = absurd (never _ f g)
-  flag-red (flagged k l e) f g = absurd (never _ f g)
-  flag-red (greened k l e t) f g = absurd (never _ f g)
-  flag-red (yellowed k l e t h) f g = absurd (never _ f g)
+  flag-red (out-of-range e) f g = contrary _ g f
+  flag-red (too-early k h) f g = contrary _ g f
+  flag-red (flagged k l e) f g = contrary _ g f
+  flag-red (greened k l e t) f g = contrary _ g f
+  flag-red (yellowed k l e t h) f g = contrary _ g f
   flag-red (reddened k l e t h) f g = (rw f at g, refl)
 
-  settings-after : {r : Metered} → Coloured m time msdu eligible r → r .meter ≡ holding m (r .meter .committed) (r .meter .excess) (r .meter .last) (r .meter .«red_flag»)
+  settings-after : {r : Metered} → Coloured m time msdu eligible r → r .meter ≡ meterHolding m (r .meter .committed) (r .meter .excess) (r .meter .last) (r .meter .«red_flag»)
   unfolding filledOf
   settings-after (out-of-range e) = refl
   settings-after (too-early k h) = refl
@@ -161,7 +159,7 @@ module _ {m : Meter} {time : ℕ} {msdu : Octets} {eligible : Bool} where
   settings-after (yellowed k l e t h) = refl
   settings-after (reddened k l e t h) = refl
 
-  refused-3 : {r : Metered} → Coloured m time msdu eligible r → numberOf (r .outcome) ≡ 3 → (r .meter ≡ m) × (inRangeOf m time msdu ≡ false)
+  refused-3 : {r : Metered} → Coloured m time msdu eligible r → meterNumberOf (r .outcome) ≡ 3 → (r .meter ≡ m) × (meterInRange m time msdu ≡ false)
   refused-3 (out-of-range e) n = (refl, e)
   refused-3 (too-early k h) n = absurd (omega arith)
   refused-3 (flagged k l e) n = absurd (omega arith)
@@ -169,7 +167,7 @@ module _ {m : Meter} {time : ℕ} {msdu : Octets} {eligible : Bool} where
   refused-3 (yellowed k l e t h) n = absurd (yellow-passes (filledOf m time .«drop_on_yellow») n)
   refused-3 (reddened k l e t h) n = absurd (omega arith)
 
-  refused-9 : {r : Metered} → Coloured m time msdu eligible r → numberOf (r .outcome) ≡ 9 → (r .meter ≡ m) × (InRange m time msdu × (time < m .last))
+  refused-9 : {r : Metered} → Coloured m time msdu eligible r → meterNumberOf (r .outcome) ≡ 9 → (r .meter ≡ m) × (InRange m time msdu × (time < m .last))
   refused-9 (out-of-range e) n = absurd (omega arith)
   refused-9 (too-early k h) n = (refl, (k, h))
   refused-9 (flagged k l e) n = absurd (omega arith)
@@ -179,7 +177,7 @@ module _ {m : Meter} {time : ℕ} {msdu : Octets} {eligible : Bool} where
 
   last-after : {r : Metered} → Coloured m time msdu eligible r → InRange m time msdu → m .last ≤ time → r .meter .last ≡ time
   unfolding filledOf
-  last-after (out-of-range e) s h = absurd (never _ e (in-range-back m time msdu s))
+  last-after (out-of-range e) s h = contrary _ (in-range-back m time msdu s) e
   last-after (too-early k l) s h = absurd (omega arith)
   last-after (flagged k l e) s h = refl
   last-after (greened k l e t) s h = refl
@@ -204,14 +202,14 @@ module _ (m : Meter) (time : ℕ) (msdu : Octets) (eligible : Bool) where
   colour-flag-red = flag-red (colour-is m time msdu eligible)
 
   -- a step changes tokens, time and flag, and no setting
-  pub colour-settings : after .meter ≡ holding m (after .meter .committed) (after .meter .excess) (after .meter .last) (after .meter .«red_flag»)
+  pub colour-settings : after .meter ≡ meterHolding m (after .meter .committed) (after .meter .excess) (after .meter .last) (after .meter .«red_flag»)
   colour-settings = settings-after (colour-is m time msdu eligible)
 
   -- a refusal changes nothing, and is given only where document 01 says
-  pub colour-refused-3 : numberOf (after .outcome) ≡ 3 → (after .meter ≡ m) × (inRangeOf m time msdu ≡ false)
+  pub colour-refused-3 : meterNumberOf (after .outcome) ≡ 3 → (after .meter ≡ m) × (meterInRange m time msdu ≡ false)
   colour-refused-3 = refused-3 (colour-is m time msdu eligible)
 
-  pub colour-refused-9 : numberOf (after .outcome) ≡ 9 → (after .meter ≡ m) × (InRange m time msdu × (time < m .last))
+  pub colour-refused-9 : meterNumberOf (after .outcome) ≡ 9 → (after .meter ≡ m) × (InRange m time msdu × (time < m .last))
   colour-refused-9 = refused-9 (colour-is m time msdu eligible)
 
   -- where it is not refused, the fill was at the frame's time

@@ -1,4 +1,4 @@
-pub mod Meter
+pub mod Meaning
 pub mod Range
 pub mod Fill
 pub mod Cases

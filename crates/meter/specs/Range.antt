@@ -1,13 +1,14 @@
 -- What a range test that held tells, and what a meter keeps.
 use Prim.Native.Nat.{ℕ, _≤_, _^_}
-use mathlib.Core.Bool.{Bool, true, false}
-use mathlib.Core.Path.{_≡_, refl}
+use mathlib.Core.Bool.{true, _&&_}
+use mathlib.Core.Path.{_≡_}
 use borrow.Author.Tests.{leb-true, le-leb}
 use lib.Dec.{leb}
-use Rattle.bucket.specs.Bucket.{grains}
+use Rattle.logic.specs.Laws.{conjuncts}
+use Rattle.bucket.specs.Meaning.{grains}
 use Rattle.bucket.specs.declared.Octets.{Octets}
 use Rattle.meter.specs.declared.Meter.{Meter}
-use Rattle.meter.specs.Meter.{inRangeOf, _and_}
+use Rattle.meter.specs.Meaning.{meterInRange}
 
 -- the meter's own numbers are in range
 pub record Sound (m : Meter) : Type 0 where
@@ -30,51 +31,34 @@ pub record Ready (m : Meter) (time : ℕ) : Type 0 where
   pub sound : Sound m
   pub later : m .last ≤ time
 
-pub and-left : (a b : Bool) → (a and b) ≡ true → a ≡ true
-unfolding _and_
-and-left true b e = refl
-and-left false b e = e
-
-pub and-right : (a b : Bool) → (a and b) ≡ true → b ≡ true
-unfolding _and_
-and-right true b e = e
-and-right false b e = cc
-
 -- the test of the bursts alone, by which the products of the others are safe
 pub record Bursts (cbs ebs : ℕ) : Type 0 where
   pub cbs-high : cbs ≤ 1_000_000
   pub ebs-high : ebs ≤ 1_000_000
 
-pub bursts : (cbs ebs : ℕ) → (leb cbs 1_000_000 and leb ebs 1_000_000) ≡ true → Bursts cbs ebs
-bursts cbs ebs e = record { cbs-high = leb-true _ _ (and-left _ _ e); ebs-high = leb-true _ _ (and-right _ _ e) }
+pub bursts : (cbs ebs : ℕ) → (leb cbs 1_000_000 && leb ebs 1_000_000) ≡ true → Bursts cbs ebs
+bursts cbs ebs e = record { cbs-high = leb-true cbs 1_000_000 (search conjuncts); ebs-high = leb-true ebs 1_000_000 (search conjuncts) }
 
-pub in-range : (m : Meter) (time : ℕ) (msdu : Octets) → inRangeOf m time msdu ≡ true → InRange m time msdu
-unfolding inRangeOf
+pub in-range : (m : Meter) (time : ℕ) (msdu : Octets) → meterInRange m time msdu ≡ true → InRange m time msdu
+unfolding meterInRange
 in-range m time msdu e =
-    let bursts = and-left _ _ e in
-    let e₀ = and-right _ _ e in
-    let e₁ = and-left _ _ e₀ in
-    let e₂ = and-left _ _ e₁ in
-    let e₃ = and-left _ _ e₂ in
-    let e₄ = and-left _ _ e₃ in
-    let e₅ = and-left _ _ e₄ in
     record {
       sound = record {
-        cbs-high = leb-true _ _ (and-left _ _ bursts);
-        ebs-high = leb-true _ _ (and-right _ _ bursts);
-        committed-high = leb-true _ _ (and-left _ _ e₅);
-        excess-high = leb-true _ _ (and-right _ _ e₅);
-        cir-high = leb-true _ _ (and-right _ _ e₄);
-        eir-high = leb-true _ _ (and-right _ _ e₃);
-        last-high = leb-true _ _ (and-right _ _ e₂);
+        cbs-high = leb-true (m .cbs .0) 1_000_000 (search conjuncts depth 12);
+        ebs-high = leb-true (m .ebs .0) 1_000_000 (search conjuncts depth 12);
+        committed-high = leb-true (m .committed) (grains (m .cbs .0)) (search conjuncts depth 12);
+        excess-high = leb-true (m .excess) (grains (m .ebs .0)) (search conjuncts depth 12);
+        cir-high = leb-true (m .cir .0) 10_000_000_000 (search conjuncts depth 12);
+        eir-high = leb-true (m .eir .0) 10_000_000_000 (search conjuncts depth 12);
+        last-high = leb-true (m .last) (2 ^ 62) (search conjuncts depth 12);
       };
-      time-high = leb-true _ _ (and-right _ _ e₁);
-      msdu-high = leb-true _ _ (and-right _ _ e₀);
+      time-high = leb-true time (2 ^ 62) (search conjuncts depth 12);
+      msdu-high = leb-true (msdu .0) 2000 (search conjuncts depth 12);
     }
 
 -- and the other way round: a sound meter takes every frame in range
-pub in-range-back : (m : Meter) (time : ℕ) (msdu : Octets) → InRange m time msdu → inRangeOf m time msdu ≡ true
-unfolding inRangeOf _and_
+pub in-range-back : (m : Meter) (time : ℕ) (msdu : Octets) → InRange m time msdu → meterInRange m time msdu ≡ true
+unfolding meterInRange
 in-range-back m time msdu k =
     let s = k .sound in
     simp (le-leb _ _ (s .cbs-high), le-leb _ _ (s .ebs-high), le-leb _ _ (s .committed-high), le-leb _ _ (s .excess-high), le-leb _ _ (s .cir-high), le-leb _ _ (s .eir-high), le-leb _ _ (s .last-high), le-leb _ _ (k .time-high), le-leb _ _ (k .msdu-high))

@@ -3,8 +3,8 @@ use bucket::Octets;
 use bucket::Rate;
 ghost use mathlib.Core.Path.{_≡_};
 ghost use Prim.Native.Nat.{_-_, _*_, min};
-ghost use Rattle.bucket.specs.Bucket.{grains};
-ghost use Rattle.meter.specs.Meter.{freshOf, colourOf, filledOf, paintedOf, inRangeOf, spilt, yellowOf};
+ghost use Rattle.bucket.specs.Meaning.{grains};
+ghost use Rattle.meter.specs.Meaning.{freshMeterOf, colourOf, filledOf, paintedOf, meterInRange, spilt, yellowOutcome};
 ghost use Rattle.meter.specs.Range.{Ready};
 
 pub struct Meter {
@@ -57,7 +57,7 @@ impl Meter {
         drop_on_yellow: bool,
         red_block: bool,
     ) -> Meter
-        ensures { λ r. ⌜ r ≡ freshOf cir cbs eir ebs coupling «colour_aware» «drop_on_yellow» «red_block» ⌝ }
+        ensures { λ r. ⌜ r ≡ freshMeterOf cir cbs eir ebs coupling «colour_aware» «drop_on_yellow» «red_block» ⌝ }
     {
         Meter {
             cir,
@@ -97,7 +97,7 @@ impl Meter {
     }
 
     fn in_range(self, time: u64, msdu: Octets) -> bool
-        ensures { λ r. ⌜ r ≡ inRangeOf self time msdu ⌝ }
+        ensures { λ r. ⌜ r ≡ meterInRange self time msdu ⌝ }
     {
         let cbs = self.cbs.0 as u64;
         let ebs = self.ebs.0 as u64;
@@ -188,7 +188,7 @@ fn spill(coupling: bool, over: u64) -> u64
 }
 
 fn yellow(dropped: bool) -> Outcome
-    ensures { λ r. ⌜ r ≡ yellowOf dropped ⌝ }
+    ensures { λ r. ⌜ r ≡ yellowOutcome dropped ⌝ }
 {
     if dropped {
         Outcome::YellowDropped

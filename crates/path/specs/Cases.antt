@@ -16,14 +16,15 @@ use Rattle.scheduler.specs.declared.Outcome.the-variants.{Admitted}
 use Rattle.record.specs.declared.ArrivalRecord.{ArrivalRecord}
 use Rattle.record.specs.declared.Refusal.the-variants.{TimeGoesBack}
 use Rattle.bank.specs.declared.Counters.{Counters}
-use Rattle.bank.specs.Rows.{Rows}
-use Rattle.bank.specs.Views.{stage, withStage, counters, withGateState, withMeterState, schedulerGroup, withSchedulerState, withGroupLast}
+use Rattle.bank.specs.Meaning.{Rows, component, withClock, counters, withGateState, withMeterState, schedulerGroup, withSchedulerState, withGroupLast}
 use Rattle.filter.specs.declared.Filter.{Filter}
+use Rattle.filter.specs.declared.Found.{Found}
+use Rattle.filter.specs.declared.Found.the-variants.{Nothing, At}
 use Rattle.verdict.specs.declared.Drop.the-variants as drop
 use Rattle.verdict.specs.declared.Verdict.{Verdict}
 use Rattle.verdict.specs.declared.Verdict.the-variants.{Refused, Dropped}
-use Rattle.verdict.specs.Told.{told}
-use Rattle.path.specs.Path.{passOf, sduFailed, sduPassed, offeredOf, scheduledBy, scheduledOf, colouredOf, meteredBy, meteredOf, reachedOf, gatedBy, gatedOf, policedOf, arrivalOf}
+use Rattle.verdict.specs.Meaning.{told}
+use Rattle.path.specs.Meaning.{passOf, sduFailed, sduPassed, offeredOf, scheduledBy, scheduledOf, colouredOf, meteredBy, meteredOf, reachedOf, gatedBy, gatedOf, sduFilteredOf, arrivalOf}
 
 module _ (s : Rows) (a : ArrivalRecord) (row : Filter) (priority mark : ℕ) where
   pub scheduled-none : row .scheduler ≡ 255 → scheduledOf s a row priority mark ≡ told s (passOf s priority mark false 0)
@@ -63,32 +64,32 @@ module _ (s : Rows) (lists : List ℕ) (a : ArrivalRecord) (f : ℕ) (row : Filt
   abbrev exceeds : Bool
   exceeds = not (eqb (row .«max_sdu») 0) && ltb (row .«max_sdu») (a .msdu)
 
-  pub policed-blocked : blocks (counters s f) ≡ true → policedOf s lists a f row ≡ told (sduFailed s f (counters s f .oversize)) (Dropped drop.OversizeBlocked)
-  unfolding policedOf
-  policed-blocked h = rw h
+  pub sdu-blocked : blocks (counters s f) ≡ true → sduFilteredOf s lists a f row ≡ told (sduFailed s f (counters s f .oversize)) (Dropped drop.OversizeBlocked)
+  unfolding sduFilteredOf
+  sdu-blocked h = rw h
 
-  pub policed-oversize : blocks (counters s f) ≡ false → exceeds ≡ true
-      → policedOf s lists a f row ≡ told (sduFailed s f (counters s f .oversize || eqb (row .«oversize_block») 1)) (Dropped drop.Oversize)
-  unfolding policedOf
-  policed-oversize free h = rw (free, h)
+  pub sdu-oversize : blocks (counters s f) ≡ false → exceeds ≡ true
+      → sduFilteredOf s lists a f row ≡ told (sduFailed s f (counters s f .oversize || eqb (row .«oversize_block») 1)) (Dropped drop.Oversize)
+  unfolding sduFilteredOf
+  sdu-oversize free h = rw (free, h)
 
-  pub policed-on : blocks (counters s f) ≡ false → exceeds ≡ false → policedOf s lists a f row ≡ gatedOf (sduPassed s f) lists a f row
-  unfolding policedOf
-  policed-on free h = rw (free, h)
+  pub sdu-passes : blocks (counters s f) ≡ false → exceeds ≡ false → sduFilteredOf s lists a f row ≡ gatedOf (sduPassed s f) lists a f row
+  unfolding sduFilteredOf
+  sdu-passes free h = rw (free, h)
 
-module _ (s : Rows) (lists : List ℕ) (a : ArrivalRecord) (hit : ℕ) (row : Filter) where
+module _ (s : Rows) (lists : List ℕ) (a : ArrivalRecord) (found : Found) where
   -- the clock is set
   abbrev ticked : Rows
-  ticked = withStage s (record { classes = stage s .classes; clock = a .time; overhead = stage s .overhead })
+  ticked = withClock s (a .time)
 
-  pub arrival-back : a .time < stage s .clock → arrivalOf s lists a hit row ≡ told s (Refused TimeGoesBack)
+  pub arrival-back : a .time < component s .clock → arrivalOf s lists a found ≡ told s (Refused TimeGoesBack)
   unfolding arrivalOf
   arrival-back h = rw (lt-ltb _ _ h)
 
-  pub arrival-matched : stage s .clock ≤ a .time → hit < 64 → arrivalOf s lists a hit row ≡ policedOf ticked lists a hit row
+  pub arrival-matched : (f : ℕ) (row : Filter) → component s .clock ≤ a .time → found ≡ At f row → arrivalOf s lists a found ≡ sduFilteredOf ticked lists a f row
   unfolding arrivalOf
-  arrival-matched h k = rw (le-ltb _ _ h, lt-ltb _ _ k)
+  arrival-matched f row h k = rw (le-ltb _ _ h, k)
 
-  pub arrival-unmatched : stage s .clock ≤ a .time → 64 ≤ hit → arrivalOf s lists a hit row ≡ told ticked (passOf ticked (a .priority) (a .«drop_eligible») false 0)
+  pub arrival-unmatched : component s .clock ≤ a .time → found ≡ Nothing → arrivalOf s lists a found ≡ told ticked (passOf ticked (a .priority) (a .«drop_eligible») false 0)
   unfolding arrivalOf
-  arrival-unmatched h k = rw (le-ltb _ _ h, le-ltb _ _ k)
+  arrival-unmatched h k = rw (le-ltb _ _ h, k)

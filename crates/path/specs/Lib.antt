@@ -1,2 +1,2 @@
-pub mod Path
+pub mod Meaning
 pub mod Cases

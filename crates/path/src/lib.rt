@@ -1,10 +1,11 @@
 // A frame's path: document 01's five steps, each a function that ends in a drop or in the next step.
+use bank::Counter;
 use bank::Lists;
-use bank::Stage;
 use bank::Words;
 use bucket::Octets;
 use class::Class;
 use filter::Filter;
+use filter::Found;
 use gate::Gate;
 use gate::Stepped;
 use record::ArrivalRecord;
@@ -13,40 +14,33 @@ use verdict::Drop;
 use verdict::Pass;
 use verdict::Verdict;
 ghost use mathlib.Core.Path.{_≡_};
-ghost use Prim.Native.Nat.{_+_, _*_, _%_, _≤_};
+ghost use Prim.Native.Nat.{_*_, _%_, _≤_};
 ghost use lib.ListN.{length, take, drop};
-ghost use Rattle.gate.specs.Meaning.{entriesOf, stepOf};
-ghost use Rattle.bank.specs.Rows.{rowsOf};
-ghost use Rattle.verdict.specs.Told.{told};
-ghost use Rattle.path.specs.Path.{next, internalOf, classOf, passOf, sduPassed, sduFailed, gatePassed, gateFailed, redCounted, discarded, lengthOf, scheduledOf, meteredOf, gatedOf, policedOf, arrivalOf};
+ghost use Rattle.sizes.specs.Meaning.{gateCount, entryCount, entryOctets, listOctets, listsOctets};
+ghost use Rattle.gate.specs.Meaning.{entriesOf, gateStepOf};
+ghost use Rattle.bank.specs.Meaning.{rowsOf};
+ghost use Rattle.verdict.specs.Meaning.{told};
+ghost use Rattle.path.specs.Meaning.{internalOf, classIn, passOf, sduPassed, sduFailed, gatePassed, gateFailed, redCounted, discardCounted, chargedOf, scheduledOf, meteredOf, gatedOf, sduFilteredOf, arrivalOf};
 
-// An arrival, where `hit` is the place of the first filter that matches, 64 if none does, and `row` that filter.
+// An arrival, where `found` is the first filter that matches.
 // Ruled out: every frame passing at its arrival time; an arrival that is refused moving the clock.
-pub fn arrive(bank: &mut Words, lists: &Lists, a: ArrivalRecord, hit: usize, row: Filter) -> Verdict
-    ensures { λ r. ⌜ told (rowsOf (now (bank .exit))) r ≡ arrivalOf (rowsOf (now (bank .entry))) (now (lists .entry)) a hit row ⌝ }
+pub fn arrive(bank: &mut Words, lists: &Lists, a: ArrivalRecord, found: Found) -> Verdict
+    ensures { λ r. ⌜ told (rowsOf (now (bank .exit))) r ≡ arrivalOf (rowsOf (now (bank .entry))) (now (lists .entry)) a found ⌝ }
 {
-    let stage = bank::stage_at(bank);
-    if a.time < stage.clock {
+    let component = bank::component_at(bank);
+    if a.time < component.clock {
         return Verdict::Refused(Refusal::TimeGoesBack);
     }
-    bank::put_stage(
-        bank,
-        Stage {
-            classes: stage.classes,
-            clock: a.time,
-            overhead: stage.overhead,
-        },
-    );
-    if hit < 64 {
-        police(bank, lists, a, hit, row)
-    } else {
-        pass(bank, a.priority, a.drop_eligible, false, 0)
+    bank::put_clock(bank, a.time);
+    match found {
+        Found::At(f, row) => filter_sdu(bank, lists, a, f, row),
+        Found::Nothing => pass(bank, a.priority, a.drop_eligible, false, 0),
     }
 }
 
 // 2: the maximum SDU filter.
-fn police(bank: &mut Words, lists: &Lists, a: ArrivalRecord, f: usize, row: Filter) -> Verdict
-    ensures { λ r. ⌜ told (rowsOf (now (bank .exit))) r ≡ policedOf (rowsOf (now (bank .entry))) (now (lists .entry)) a f row ⌝ }
+fn filter_sdu(bank: &mut Words, lists: &Lists, a: ArrivalRecord, f: usize, row: Filter) -> Verdict
+    ensures { λ r. ⌜ told (rowsOf (now (bank .exit))) r ≡ sduFilteredOf (rowsOf (now (bank .entry))) (now (lists .entry)) a f row ⌝ }
 {
     let c = bank::counters_at(bank, f);
     let block = row.oversize_block == 1;
@@ -95,11 +89,11 @@ fn reach(bank: &mut Words, lists: &Lists, a: ArrivalRecord, f: usize, row: Filte
 
 // The step of gate `i` over its own part of the lists, `n` entries long.
 fn step_in(lists: &[u8], i: usize, n: usize, g: Gate, time: u64, msdu: u64) -> Stepped
-    requires { ⌜ (length (now lists) ≡ 1408) × (n ≤ 8) ⌝ }
-    ensures { λ r. ⌜ r ≡ stepOf g (entriesOf (take (n * 11) (drop (i % 16 * 88) (now (lists .entry))))) time msdu ⌝ }
+    requires { ⌜ (length (now lists) ≡ listsOctets) × (n ≤ entryCount) ⌝ }
+    ensures { λ r. ⌜ r ≡ gateStepOf g (entriesOf (take (n * entryOctets) (drop (i % gateCount * listOctets) (now (lists .entry))))) time msdu ⌝ }
 {
-    let from = i % 16 * 88;
-    let end = from + n * 11;
+    let from = i % sizes::GATES * sizes::LIST;
+    let end = from + n * sizes::ENTRY;
     gate::step(g, &lists[from..end], time, msdu)
 }
 
@@ -149,7 +143,7 @@ fn schedule(bank: &mut Words, a: ArrivalRecord, row: Filter, priority: u8, mark:
     let j = bank::scheduler_group(bank, i);
     let s = bank::scheduler_at(bank, i);
     let g = bank::group_at(bank, j);
-    let length = octets(bank, a);
+    let length = charged(bank, a);
     let r = scheduler::step(s, g.last, g.residence, a.time, length);
     let after = r.scheduler;
     let o = r.outcome;
@@ -174,8 +168,8 @@ fn schedule(bank: &mut Words, a: ArrivalRecord, row: Filter, priority: u8, mark:
 fn pass(bank: &Words, priority: u8, mark: u8, timed: bool, at: u64) -> Verdict
     ensures { λ r. ⌜ r ≡ passOf (rowsOf (now (bank .entry))) priority mark timed at ⌝ }
 {
-    let stage = bank::stage_at(bank);
-    let c = class::traffic_class(priority, (stage.classes % 256) as u8);
+    let component = bank::component_at(bank);
+    let c = class::traffic_class(priority, (component.classes % 256) as u8);
     Verdict::Passed(Pass {
         priority,
         class: number(c),
@@ -186,7 +180,7 @@ fn pass(bank: &Words, priority: u8, mark: u8, timed: bool, at: u64) -> Verdict
 }
 
 fn number(c: Class) -> u8
-    ensures { λ r. ⌜ r ≡ classOf c ⌝ }
+    ensures { λ r. ⌜ r ≡ classIn c ⌝ }
 {
     match c {
         Class::Of(n) => n,
@@ -200,66 +194,50 @@ fn internal(ipv: u8, own: u8) -> u8
     if ipv <= 7 { ipv } else { own }
 }
 
-fn octets(bank: &Words, a: ArrivalRecord) -> Octets
-    ensures { λ r. ⌜ r ≡ lengthOf (rowsOf (now (bank .entry))) a ⌝ }
+// What the scheduler charges.
+fn charged(bank: &Words, a: ArrivalRecord) -> Octets
+    ensures { λ r. ⌜ r ≡ chargedOf (rowsOf (now (bank .entry))) a ⌝ }
 {
     let p = bank::port_at(bank, a.port as usize);
-    Octets(a.msdu as u32 + (p.overhead % 256) as u32)
+    frame::length(a.msdu, p.overhead)
 }
 
 fn discard(bank: &mut Words, i: usize)
-    ensures { λ _. ⌜ rowsOf (now (bank .exit)) ≡ discarded (rowsOf (now (bank .entry))) i ⌝ }
+    ensures { λ _. ⌜ rowsOf (now (bank .exit)) ≡ discardCounted (rowsOf (now (bank .entry))) i ⌝ }
 {
     let p = bank::port_at(bank, i);
-    bank::put_discarded(bank, i, one_more(p.discarded));
+    bank::put_discarded(bank, i, std::num::wrapping_add_u64(p.discarded, 1));
 }
 
 fn count_sdu_passed(bank: &mut Words, f: usize)
     ensures { λ _. ⌜ rowsOf (now (bank .exit)) ≡ sduPassed (rowsOf (now (bank .entry))) f ⌝ }
 {
-    let mut c = bank::counters_at(bank, f);
-    c.matching = one_more(c.matching);
-    c.passing_sdu = one_more(c.passing_sdu);
-    bank::put_counters(bank, f, c);
+    bank::count(bank, f, Counter::Matching);
+    bank::count(bank, f, Counter::PassingSdu);
 }
 
 fn count_sdu_failed(bank: &mut Words, f: usize, flag: bool)
     ensures { λ _. ⌜ rowsOf (now (bank .exit)) ≡ sduFailed (rowsOf (now (bank .entry))) f flag ⌝ }
 {
-    let mut c = bank::counters_at(bank, f);
-    c.matching = one_more(c.matching);
-    c.not_passing_sdu = one_more(c.not_passing_sdu);
-    c.oversize = flag;
-    bank::put_counters(bank, f, c);
+    bank::count(bank, f, Counter::Matching);
+    bank::count(bank, f, Counter::NotPassingSdu);
+    bank::put_oversize(bank, f, flag);
 }
 
 fn count_gate_passed(bank: &mut Words, f: usize)
     ensures { λ _. ⌜ rowsOf (now (bank .exit)) ≡ gatePassed (rowsOf (now (bank .entry))) f ⌝ }
 {
-    let mut c = bank::counters_at(bank, f);
-    c.passing = one_more(c.passing);
-    bank::put_counters(bank, f, c);
+    bank::count(bank, f, Counter::Passing);
 }
 
 fn count_gate_failed(bank: &mut Words, f: usize)
     ensures { λ _. ⌜ rowsOf (now (bank .exit)) ≡ gateFailed (rowsOf (now (bank .entry))) f ⌝ }
 {
-    let mut c = bank::counters_at(bank, f);
-    c.not_passing = one_more(c.not_passing);
-    bank::put_counters(bank, f, c);
+    bank::count(bank, f, Counter::NotPassing);
 }
 
 fn count_red(bank: &mut Words, f: usize)
     ensures { λ _. ⌜ rowsOf (now (bank .exit)) ≡ redCounted (rowsOf (now (bank .entry))) f ⌝ }
 {
-    let mut c = bank::counters_at(bank, f);
-    c.red = one_more(c.red);
-    bank::put_counters(bank, f, c);
-}
-
-// After 2^64 - 1 a counter goes to 0.
-fn one_more(n: u64) -> u64
-    ensures { λ r. ⌜ r ≡ next n ⌝ }
-{
-    std::num::wrapping_add_u64(n, 1)
+    bank::count(bank, f, Counter::Red);
 }

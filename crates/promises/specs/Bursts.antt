@@ -1,5 +1,5 @@
--- Demand 3: what a larger burst of one scheduler does to a whole history. `Promise.antt` has the definitions, `Theorem.antt` the theorem.
-pub mod Promise
+-- Demand 3: what a larger burst of one scheduler does to a whole history. `Meaning.antt` has the definitions, `Theorem.antt` the theorem.
+pub mod Meaning
 pub mod Pairs
 pub mod Frames
 pub mod Outside
@@ -7,7 +7,6 @@ pub mod Inside
 pub mod Found
 pub mod Clears
 pub mod Setups
-pub mod Turns
 pub mod Early
 pub mod Later
 pub mod Loose

@@ -1,22 +1,23 @@
 -- No second answer: every public contract is an equation with one definition, so two answers that meet it are equal. One law for each shape that
 -- the contracts have.
 use Prim.Native.Nat.{ℕ}
-use mathlib.Core.List.{List, [], _∷_}
+use mathlib.Core.List.{List, _∷_}
 use mathlib.Core.Path.{_≡_, refl, sym, ap, _∙_}
 use lib.ListN.{length}
-use Rattle.bank.specs.Rows.{Rows, rowsOf, rows-tell}
+use Rattle.bank.specs.Meaning.{Rows, rowsOf}
+use Rattle.bank.specs.Rows.{rows-tell}
 use Rattle.filter.specs.declared.Filter.{Filter}
 use Rattle.verdict.specs.declared.Verdict.{Verdict}
 use Rattle.verdict.specs.declared.Answer.{Answer}
-use Rattle.verdict.specs.Told.{Told, told}
-use Rattle.setup.specs.Setup.{Listed, listed}
-use Rattle.stage.specs.Take.{Bridge, Took, bridge, took, takeOf}
+use Rattle.verdict.specs.Meaning.{Told, told}
+use Rattle.setup.specs.Meaning.{Listed, listed}
+use Rattle.stage.specs.Meaning.{Bridge, Took, bridge, took, takeOf}
 use Rattle.transomrib.specs.declared.Reply.{Reply}
-use Rattle.transomrib.specs.Reply.{Replied, replied}
-use Rattle.text.specs.Page.{Page, page}
+use Rattle.transomrib.specs.Meaning.{Replied, replied}
+use Rattle.text.specs.Meaning.{Page, page}
 use Rattle.run.specs.declared.Progress.{Progress}
-use Rattle.run.specs.Run.{Ran, ran}
-use Rattle.promises.specs.Runs.{Call, runOf, answersOf}
+use Rattle.run.specs.Meaning.{Ran, ran}
+use Rattle.promises.specs.Meaning.{Call, runOf, answersOf, History, done, call}
 
 -- `r ≡ fooOf ..`: what is given by value, and a table, a scheduler or the view of a part that is lent (`now (table .exit) ≡ ..`, `viewOf r ≡ ..`)
 pub one-value : {A : Type 0} (meaning r r′ : A) → r ≡ meaning → r′ ≡ meaning → r ≡ r′
@@ -72,10 +73,6 @@ one-run meaning table table′ ws ws′ lists lists′ out out′ p p′ same e 
 )
 
 -- ---- every history. Calls one after another, each of which meets the contract on the bridge that the one before it left
-
-pub data History : Bridge → List Call → List Answer → Bridge → Type 0 where
-  done : {b : Bridge} → History b [] [] b
-  call : {b b′ b″ : Bridge} {c : Call} {cs : List Call} {a : Answer} {answers : List Answer} → took (b′ .table) (b′ .bank) (b′ .lists) a ≡ takeOf b c → History b′ cs answers b″ → History b (c ∷ cs) (a ∷ answers) b″
 
 -- its answers and the bridge that it leaves are those of the definitions, and so no other history fits
 pub history-is-run : {b b′ : Bridge} {cs : List Call} {answers : List Answer} → History b cs answers b′ → (b′ ≡ runOf b cs) × (answers ≡ answersOf b cs)

@@ -6,18 +6,18 @@ use mathlib.Core.Path.{_≡_, refl}
 use lib.Dec.{eqb}
 use Rattle.class.specs.declared.Class.{Class}
 use Rattle.class.specs.declared.Class.the-variants.{Of, Refused as NoClass}
-use Rattle.class.specs.Table.{trafficClassOf, rows as classRows, _and_ as _andClass_}
-use Rattle.gate.specs.Meaning.{entriesFrom, entriesOf, cycleOf, foundOf, inForceOf, noLimit, spentOf, limitedOf, passedOf, stepOf as gateStepOf, Frame, afterOf as gateAfterOf}
-use Rattle.gate.specs.Worked.{Row, rowsOf, figureGate, figureList, framesF, framesG, framesH, framesI}
+use Rattle.class.specs.Meaning.{trafficClassOf, classRows}
+use Rattle.gate.specs.Meaning.{entriesFrom, entriesOf, cycleOf, foundOf, inForceOf, noLimit, spentOf, limitedOf, passedOf, gateStepOf, Frame, gateAfter as gateAfterOf}
+use Rattle.gate.specs.Worked.{Row, figuresOf, figureGate, figureList, framesF, framesG, framesH, framesI}
 use Rattle.meter.specs.declared.Outcome.{Outcome as MeterOutcome}
 use Rattle.meter.specs.declared.Outcome.the-variants as meter
-use Rattle.meter.specs.Meter.{filledOf, paintedOf, colourOf, inRangeOf as meterInRangeOf, _and_ as _andMeter_, numberOf as meterNumberOf}
+use Rattle.meter.specs.Meaning.{filledOf, paintedOf, colourOf, meterInRange as meterInRangeOf, meterNumberOf}
 use Rattle.meter.specs.Worked.{worked, frame, frames-J, outcomesOf, afterOf as meterAfterOf}
 use Rattle.scheduler.specs.declared.Scheduler.{Scheduler}
 use Rattle.scheduler.specs.declared.Outcome.{Outcome as SchedulerOutcome}
 use Rattle.scheduler.specs.declared.Outcome.the-variants as scheduler
-use Rattle.scheduler.specs.Step.{stepOf as schedulerStepOf, inRangeOf as schedulerInRangeOf, _and_ as _andScheduler_, numberOf as schedulerNumberOf}
-use Rattle.scheduler.specs.Worked.{S, full, runOf, lastOf}
+use Rattle.scheduler.specs.Meaning.{schedulerStepOf, schedulerInRange as schedulerInRangeOf, schedulerNumberOf}
+use Rattle.scheduler.specs.Worked.{S, full, outcomesAfter, lastOf}
 
 -- what a frame gets: eligible at a time; dropped with a number; through the gate with so many octets left, or without limit; a colour; a class
 pub data Figure : Type 0 where
@@ -67,11 +67,11 @@ ofScheduler scheduler.Refused = refused (schedulerNumberOf scheduler.Refused)
 abbrev pub through : Scheduler → List ℕ → List ℕ → List Figure
 through s earlier times =
     let before = lastOf s 0 10_000 500 earlier in
-    each ofScheduler (runOf (before .scheduler) (before .group) 10_000 500 times)
+    each ofScheduler (outcomesAfter (before .scheduler) (before .group) 10_000 500 times)
 
 -- a full S, whose group's last time is that after such frames through another S
 abbrev pub beside : List ℕ → List ℕ → List Figure
-beside earlier times = each ofScheduler (runOf S (lastOf S 0 10_000 500 earlier .group) 10_000 500 times)
+beside earlier times = each ofScheduler (outcomesAfter S (lastOf S 0 10_000 500 earlier .group) 10_000 500 times)
 
 -- ---- the gate: frames after earlier ones
 
@@ -79,7 +79,7 @@ abbrev pub ofGate : Row → Figure
 ofGate r = cond (eqb (r .number) 0) (cond (eqb (r .left) noLimit) unlimited (left (r .left))) (drop (r .number))
 
 abbrev pub atGate : List Frame → List Frame → List Figure
-atGate earlier frames = each ofGate (rowsOf (gateAfterOf figureGate (entriesOf figureList) earlier) (entriesOf figureList) frames)
+atGate earlier frames = each ofGate (figuresOf (gateAfterOf figureGate (entriesOf figureList) earlier) (entriesOf figureList) frames)
 
 -- ---- the meter and the class
 
@@ -128,5 +128,5 @@ pub starred : computed
     ∷ case K (green ∷ [])
     ∷ case L (class 1 ∷ [])
     ∷ []
-unfolding computed each runOf lastOf schedulerStepOf schedulerInRangeOf _andScheduler_ entriesFrom cycleOf foundOf inForceOf spentOf limitedOf passedOf gateStepOf gateAfterOf rowsOf outcomesOf meterAfterOf colourOf meterInRangeOf paintedOf filledOf _andMeter_ trafficClassOf classRows _andClass_
+unfolding computed each outcomesAfter lastOf schedulerStepOf schedulerInRangeOf entriesFrom cycleOf foundOf inForceOf spentOf limitedOf passedOf gateStepOf gateAfterOf figuresOf outcomesOf meterAfterOf colourOf meterInRangeOf paintedOf filledOf trafficClassOf classRows
 starred = refl

@@ -1,130 +1,94 @@
--- Which rows of the bank a call leaves as they were.
-use Prim.Native.Nat.{ℕ, _<_}
+-- Which rows of the bank a setup record leaves as they were.
+use Prim.Native.Nat.{ℕ}
 use mathlib.Core.Bool.{Bool, true, false, cond}
 use mathlib.Core.List.{List}
 use mathlib.Core.Logic.{_≢_}
-use mathlib.Core.Path.{_≡_, refl, _∙_}
-use native.Mathlib.Omega.{arith}
+use mathlib.Core.Path.{_≡_, refl}
 use lib.Dec.{ltb}
+use lib.ListN.{set}
+use Rattle.sizes.specs.Meaning.{entryCount}
 use Rattle.record.specs.declared.Record.{Record}
 use Rattle.record.specs.declared.Record.the-variants as kind
-use Rattle.record.specs.declared.ArrivalRecord.{ArrivalRecord}
-use Rattle.record.specs.declared.ClearRecord.{ClearRecord}
+use Rattle.record.specs.declared.FilterRecord.{FilterRecord}
 use Rattle.record.specs.declared.GateEntryRecord.{GateEntryRecord}
+use Rattle.record.specs.declared.GateRecord.{GateRecord}
+use Rattle.record.specs.declared.GroupRecord.{GroupRecord}
 use Rattle.record.specs.declared.MeterRecord.{MeterRecord}
+use Rattle.record.specs.declared.PortRecord.{PortRecord}
+use Rattle.record.specs.declared.SchedulerRecord.{SchedulerRecord}
+use Rattle.record.specs.declared.StartRecord.{StartRecord}
 use Rattle.record.specs.declared.Refusal.the-variants.{SetUpAlready}
-use Rattle.bank.specs.Rows.{Rows, row-other}
-use Rattle.bank.specs.Views.{portRow, countersRow, gateRow, meterStateRow, groupRow, schedulerRow, entries}
+use Rattle.record.specs.Sorts.{Setup, never-setup}
+use Rattle.bank.specs.Meaning.{Rows, portRow, gateRow, groupRow, schedulerRow, entries, componentRow}
+use Rattle.bank.specs.Rows.{row-other}
 use Rattle.filter.specs.declared.Filter.{Filter}
-use Rattle.filter.specs.Filter.{isFilterOf, rowOf}
-use Rattle.verdict.specs.Told.{Told}
-use Rattle.setup.specs.Setup.{Listed, entryOf, meterOf}
+use Rattle.filter.specs.declared.Asks.the-variants.{Missing, ExceedsBurst}
+use Rattle.filter.specs.Meaning.{isFilterOf, rowOf}
+use Rattle.setup.specs.Meaning.{Listed, setPortOf, setGateOf, addEntryOf, setMeterOf, setGroupOf, setSchedulerOf, startOf}
 use Rattle.setup.specs.Laws.{port-other, gate-other, group-other, scheduler-other, start-other}
-use Rattle.path.specs.Path.{sduPassed, sduFailed, gatePassed, gateFailed, redCounted, discarded}
-use Rattle.stage.specs.Take.{Bridge, Took, refusedOf, takenOf}
-use Rattle.promises.specs.Runs.{Call}
-use Rattle.promises.specs.Ways.{Scheduled, unscheduled, admitted, late, Metered, unmetered, coloured, yellow, red, metered}
+use Rattle.stage.specs.Meaning.{Bridge, Took, bridge, refusedOf, filterOf, noKey, firstRow, takenOf}
+use Rattle.promises.specs.Meaning.{Call}
 
--- ---- records that are no arrival and no clear
+-- ---- a setup record
 
--- kinds 1 to 8
-abbrev pub Setup : Record → Type 0
-Setup (kind.Port r) = Unit {0}
-Setup (kind.Filter r) = Unit {0}
-Setup (kind.Gate r) = Unit {0}
-Setup (kind.GateEntry r) = Unit {0}
-Setup (kind.Meter r) = Unit {0}
-Setup (kind.Group r) = Unit {0}
-Setup (kind.Scheduler r) = Unit {0}
-Setup (kind.Start r) = Unit {0}
-Setup (kind.Arrival a) = ⊥
-Setup (kind.Clear r) = ⊥
-
-pub data Sort : Record → Type 0 where
-  setup : {r : Record} → Setup r → Sort r
-  arrival : (a : ArrivalRecord) → Sort (kind.Arrival a)
-  clear : (r : ClearRecord) → Sort (kind.Clear r)
-
-pub sort-of : (r : Record) → Sort r
-sort-of (kind.Port r) = setup tt
-sort-of (kind.Filter r) = setup tt
-sort-of (kind.Gate r) = setup tt
-sort-of (kind.GateEntry r) = setup tt
-sort-of (kind.Meter r) = setup tt
-sort-of (kind.Group r) = setup tt
-sort-of (kind.Scheduler r) = setup tt
-sort-of (kind.Start r) = setup tt
-sort-of (kind.Arrival a) = arrival a
-sort-of (kind.Clear r) = clear r
-
-pub entry-row : (s : Rows) (lists input : List ℕ) (r : GateEntryRecord) (q : ℕ) → q ≢ gateRow (r .gate) → entryOf s lists input r .bank q ≡ s q
-unfolding entryOf
-entry-row s lists input r q h = by-room (ltb (entries s (r .gate)) 8) _ _ (row-other _ _ _ q h) refl
+pub entry-row : (s : Rows) (lists input : List ℕ) (r : GateEntryRecord) (q : ℕ) → q ≢ gateRow (r .gate) → addEntryOf s lists input r .bank q ≡ s q
+unfolding addEntryOf
+entry-row s lists input r q h = by-room (ltb (entries s (r .gate)) entryCount) _ _ (row-other _ _ _ q h) refl
   where
     by-room : (t : Bool) (x y : Listed) → x .bank q ≡ s q → y .bank q ≡ s q → cond t x y .bank q ≡ s q
     by-room true x y p p′ = p
     by-room false x y p p′ = p′
 
-pub place-row : (t : Bool) (b : Bridge) (o : Took) (q : ℕ) → o .after .bank q ≡ b .bank q → cond t (refusedOf b SetUpAlready) o .after .bank q ≡ b .bank q
-place-row true b o q e = refl
-place-row false b o q e = e
+-- what is to be shown of each setup record so that P holds of the bridge that it leaves
+pub record Setups (b : Bridge) (c : Call) (P : Bridge → Type 0) : Type 0 where
+  pub now : P b
+  pub ports : (r : PortRecord) → P (bridge (b .table) (setPortOf (b .bank) r .bank) (b .lists))
+  pub filters : (r : FilterRecord) → P (bridge (set (b .table) (r .id) (filterOf r)) (b .bank) (b .lists))
+  pub gates : (r : GateRecord) → P (bridge (b .table) (setGateOf (b .bank) r .bank) (b .lists))
+  pub entries : (r : GateEntryRecord) → P (bridge (b .table) (addEntryOf (b .bank) (b .lists) c r .bank) (addEntryOf (b .bank) (b .lists) c r .lists))
+  pub meters : (r : MeterRecord) → P (bridge (b .table) (setMeterOf (b .bank) r .bank) (b .lists))
+  pub groups : (r : GroupRecord) → P (bridge (b .table) (setGroupOf (b .bank) r .bank) (b .lists))
+  pub schedulers : (r : SchedulerRecord) → P (bridge (b .table) (setSchedulerOf (b .bank) r .bank) (b .lists))
+  pub starts : (r : StartRecord) → P (bridge (b .table) (startOf (b .bank) r (firstRow b Missing noKey) (firstRow b ExceedsBurst noKey) .bank) (b .lists))
 
--- a row that is none of the stage, ports, gates' settings, groups and schedulers: of these records only a meter's can write it
-module _ (b : Bridge) (c : Call) (q : ℕ) (low : 8 < q) (high : q < 137) (no-gate : (j : ℕ) → q ≢ gateRow j) (meters : (r : MeterRecord) → meterOf (b .bank) r .bank q ≡ b .bank q) where
-  pub setup-row : (r : Record) (used : ℕ) → Setup r → takenOf b c r used .after .bank q ≡ b .bank q
+module _ (b : Bridge) (c : Call) (P : Bridge → Type 0) (all : Setups b c P) where
+  placed : (t : Bool) (o : Took) → P (o .after) → P (cond t (refusedOf b SetUpAlready) o .after)
+  placed true o h = all .now
+  placed false o h = h
+
+  pub setup-holds : (r : Record) (used : ℕ) → Setup r → P (takenOf b c r used .after)
   unfolding takenOf
-  setup-row (kind.Port r) used h = port-other (b .bank) q r (omega arith) (omega arith)
-  setup-row (kind.Filter r) used h = place-row (isFilterOf (rowOf (b .table) (r .id))) b _ q refl
-  setup-row (kind.Gate r) used h = gate-other (b .bank) q r (no-gate (r .id))
-  setup-row (kind.GateEntry r) used h = entry-row (b .bank) (b .lists) c r q (no-gate (r .gate))
-  setup-row (kind.Meter r) used h = meters r
-  setup-row (kind.Group r) used h = group-other (b .bank) q r (omega arith)
-  setup-row (kind.Scheduler r) used h = scheduler-other (b .bank) q r (omega arith)
-  setup-row (kind.Start r) used h = start-other (b .bank) q r _ _ (omega arith)
-  setup-row (kind.Arrival a) used h = absurd h
-  setup-row (kind.Clear r) used h = absurd h
+  setup-holds (kind.Port r) used h = all .ports r
+  setup-holds (kind.Filter r) used h = placed (isFilterOf (rowOf (b .table) (r .id))) _ (all .filters r)
+  setup-holds (kind.Gate r) used h = all .gates r
+  setup-holds (kind.GateEntry r) used h = all .entries r
+  setup-holds (kind.Meter r) used h = all .meters r
+  setup-holds (kind.Group r) used h = all .groups r
+  setup-holds (kind.Scheduler r) used h = all .schedulers r
+  setup-holds (kind.Start r) used h = all .starts r
+  setup-holds (kind.Arrival a) used h = never-setup h
+  setup-holds (kind.Clear r) used h = never-setup h
 
--- ---- the steps of a frame's path
+-- a row that is none of the component, the ports, the groups and the schedulers
+pub record Aside (q : ℕ) : Type 0 where
+  pub component : q ≢ componentRow
+  pub ports : (j : ℕ) → q ≢ portRow j
+  pub groups : (j : ℕ) → q ≢ groupRow j
+  pub schedulers : (j : ℕ) → q ≢ schedulerRow j
 
-module _ (s : Rows) (f q : ℕ) (no-counters : q ≢ countersRow f) where
-  pub sdu-passed-row : sduPassed s f q ≡ s q
-  unfolding sduPassed
-  sdu-passed-row = row-other s (countersRow f) _ q no-counters
-
-  pub sdu-failed-row : (flag : Bool) → sduFailed s f flag q ≡ s q
-  unfolding sduFailed
-  sdu-failed-row flag = row-other s (countersRow f) _ q no-counters
-
-  pub gate-passed-row : gatePassed s f q ≡ s q
-  unfolding gatePassed
-  gate-passed-row = row-other s (countersRow f) _ q no-counters
-
-  pub gate-failed-row : gateFailed s f q ≡ s q
-  unfolding gateFailed
-  gate-failed-row = row-other s (countersRow f) _ q no-counters
-
-  pub red-counted-row : redCounted s f q ≡ s q
-  unfolding redCounted
-  red-counted-row = row-other s (countersRow f) _ q no-counters
-
--- step 5 writes rows of ports, groups and schedulers
-module _ (s : Rows) (a : ArrivalRecord) (q : ℕ) (low : 8 < q) (high : q < 137) where
-  discarded-row : discarded s (a .port) q ≡ s q
-  unfolding discarded
-  discarded-row = row-other s (portRow (a .port)) _ q (omega arith)
-
-  pub scheduled-row : (t : Told) → Scheduled s a t → t .bank q ≡ s q
-  scheduled-row t (unscheduled p) = refl
-  scheduled-row t (admitted i j at x p) = row-other _ (groupRow j) _ q (omega arith) ∙ row-other s (schedulerRow i) _ q (omega arith)
-  scheduled-row t late = discarded-row
-
--- steps 4 and 5 write, besides, the state of a meter and counters of the filter
-module _ (s : Rows) (a : ArrivalRecord) (f : ℕ) (row : Filter) (q : ℕ) (low : 72 < q) (high : q < 121) where
-  metered-state-row : metered s a (row .meter) q ≡ s q
-  metered-state-row = row-other s (meterStateRow (row .meter)) _ q (omega arith)
-
-  pub metered-row : (t : Told) → Metered s a f row t → t .bank q ≡ s q
-  metered-row t (unmetered w) = scheduled-row s a q (omega arith) (omega arith) t w
-  metered-row t (coloured e w) = scheduled-row _ a q (omega arith) (omega arith) t w ∙ metered-state-row
-  metered-row t (yellow e) = red-counted-row _ f q (omega arith) ∙ metered-state-row
-  metered-row t (red e) = red-counted-row _ f q (omega arith) ∙ metered-state-row
+-- and none of the gates' settings: of these records only a meter's can write it
+module _ (b : Bridge) (c : Call) (q : ℕ) (aside : Aside q) (no-gate : (j : ℕ) → q ≢ gateRow j) (meters : (r : MeterRecord) → setMeterOf (b .bank) r .bank q ≡ b .bank q) where
+  pub setup-row : (r : Record) (used : ℕ) → Setup r → takenOf b c r used .after .bank q ≡ b .bank q
+  setup-row =
+      setup-holds b c (λ x. x .bank q ≡ b .bank q)
+      (record {
+        now = refl;
+        ports = λ r. port-other (b .bank) q r (aside .component) (aside .ports (r .port));
+        filters = λ r. refl;
+        gates = λ r. gate-other (b .bank) q r (no-gate (r .id));
+        entries = λ r. entry-row (b .bank) (b .lists) c r q (no-gate (r .gate));
+        meters = meters;
+        groups = λ r. group-other (b .bank) q r (aside .groups (r .id));
+        schedulers = λ r. scheduler-other (b .bank) q r (aside .schedulers (r .id));
+        starts = λ r. start-other (b .bank) q r _ _ (aside .component);
+      })

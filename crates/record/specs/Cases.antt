@@ -1,90 +1,88 @@
 -- The cases of `readOf`, from the facts that the code has in hand.
 use Prim.Native.Nat.{ℕ, zero, suc, _+_, _-_, _*_, _≤_, _<_}
-use mathlib.Core.Bool.{Bool, true, false}
+use mathlib.Core.Bool.{Bool, true, false, not}
 use mathlib.Core.List.{List, [], _∷_}
 use mathlib.Core.Option.{Option, none, some}
-use mathlib.Core.Path.{_≡_, refl, sym, _∙_}
+use mathlib.Core.Path.{_≡_, refl, sym, ap, subst, _∙_}
 use native.Mathlib.Omega.{arith}
 use native.Mathlib.Nat.{add-zero}
+use native.Mathlib.Decide.{ℕ-discrete}
 use borrow.Author.Tests.{le-leb, lt-leb}
 use lib.ListN.{length, getD, take, drop, List·getD-eq-default}
-use Rattle.record.specs.Body.{View, partOf, bodyOf}
+use Rattle.record.specs.Meaning.{View, partOf, bodyOf, Kind, kinds, kindOf, numberAt, recordLength, lengthIn, inTurnIn, wholeIn, readAs, readOf}
 use Rattle.record.specs.declared.Refusal.the-variants.{CutShort, UnknownKind, OutOfTurn}
 use Rattle.record.specs.declared.Reading.{Reading}
 use Rattle.record.specs.declared.Reading.the-variants.{Refused}
-use Rattle.record.specs.Kinds.{Kind, port, filter, gate, gate-entry, meter, group, scheduler, start, arrival, clear, kinds, kindOf, numberAt}
-use Rattle.record.specs.Read.{lengthOf, inTurnOf, lengthIn, wholeIn, readAs, readOf}
 
 -- a record of a kind has an octet at least
-pub length-positive : (k : Kind) → 1 ≤ lengthOf k
-length-positive port = omega arith
-length-positive filter = omega arith
-length-positive gate = omega arith
-length-positive gate-entry = omega arith
-length-positive meter = omega arith
-length-positive group = omega arith
-length-positive scheduler = omega arith
-length-positive start = omega arith
-length-positive arrival = omega arith
-length-positive clear = omega arith
+pub length-positive : (k : Kind) → 1 ≤ recordLength k
+length-positive k = omega arith
 
--- what holds of each octet up to 10 and of all above holds of every octet
-module _ (P : ℕ → Type 0) (p0 : P 0) (p1 : P 1) (p2 : P 2) (p3 : P 3) (p4 : P 4) (p5 : P 5) (p6 : P 6) (p7 : P 7) (p8 : P 8) (p9 : P 9) (p10 : P 10) (more : (n : ℕ) → 10 < n → P n) where
-  pub by-kind : (n : ℕ) → P n
-  by-kind zero = p0
-  by-kind (suc zero) = p1
-  by-kind (suc (suc zero)) = p2
-  by-kind (suc (suc (suc zero))) = p3
-  by-kind (suc (suc (suc (suc zero)))) = p4
-  by-kind (suc (suc (suc (suc (suc zero))))) = p5
-  by-kind (suc (suc (suc (suc (suc (suc zero)))))) = p6
-  by-kind (suc (suc (suc (suc (suc (suc (suc zero))))))) = p7
-  by-kind (suc (suc (suc (suc (suc (suc (suc (suc zero)))))))) = p8
-  by-kind (suc (suc (suc (suc (suc (suc (suc (suc (suc zero))))))))) = p9
-  by-kind (suc (suc (suc (suc (suc (suc (suc (suc (suc (suc zero)))))))))) = p10
-  by-kind (suc (suc (suc (suc (suc (suc (suc (suc (suc (suc (suc n))))))))))) = more (suc (suc (suc (suc (suc (suc (suc (suc (suc (suc (suc n))))))))))) (omega arith)
+-- ---- octets that are no kind
 
--- an octet that is none of 1 to 10, as a match has it
-abbrev pub Others : ℕ → Type 0
-Others n = ((((((((((Unit {0} × (n ≡ 1 → ⊥)) × (n ≡ 2 → ⊥)) × (n ≡ 3 → ⊥)) × (n ≡ 4 → ⊥)) × (n ≡ 5 → ⊥)) × (n ≡ 6 → ⊥)) × (n ≡ 7 → ⊥)) × (n ≡ 8 → ⊥)) × (n ≡ 9 → ⊥)) × (n ≡ 10 → ⊥))
+no-kind : (n : ℕ) → (0 < n → 10 < n) → kindOf n ≡ none
+no-kind zero h = refl
+no-kind (suc n) h = List·getD-eq-default kinds none (h (omega arith))
 
-pub kind-none : (n : ℕ) → Others n → kindOf n ≡ none
-kind-none =
-    by-kind
-    (λ n. Others n → kindOf n ≡ none)
-    (λ o. refl)
-    (λ o. absurd (o .0 .0 .0 .0 .0 .0 .0 .0 .0 .1 refl))
-    (λ o. absurd (o .0 .0 .0 .0 .0 .0 .0 .0 .1 refl))
-    (λ o. absurd (o .0 .0 .0 .0 .0 .0 .0 .1 refl))
-    (λ o. absurd (o .0 .0 .0 .0 .0 .0 .1 refl))
-    (λ o. absurd (o .0 .0 .0 .0 .0 .1 refl))
-    (λ o. absurd (o .0 .0 .0 .0 .1 refl))
-    (λ o. absurd (o .0 .0 .0 .1 refl))
-    (λ o. absurd (o .0 .0 .1 refl))
-    (λ o. absurd (o .0 .1 refl))
-    (λ o. absurd (o .1 refl))
-    (λ n h o. List·getD-eq-default kinds none h)
+-- n is none of 1 to k, as a match has it
+abbrev pub NoneTo : ℕ → ℕ → Type 0
+NoneTo zero n = Unit {0}
+NoneTo (suc k) n = NoneTo k n × (n ≡ suc k → ⊥)
 
-module _ (inTurn : Bool) (s : List ℕ) where
-  unknown-as : (o : Option Kind) → lengthIn o ≡ 0 → readAs o inTurn s ≡ Refused UnknownKind
+past : (k n : ℕ) → NoneTo k n → 0 < n → k < n
+past zero n o h = h
+past (suc k) n o h = omega (arith, past k n (o .0) h, o .1)
+
+pub kind-none : (n : ℕ) → NoneTo 10 n → kindOf n ≡ none
+kind-none n o = no-kind n (past 10 n o)
+
+-- ---- the turn of an octet
+
+-- P of the k numbers from m on
+abbrev Each : (ℕ → Type 0) → ℕ → ℕ → Type 0
+Each P m zero = Unit {0}
+Each P m (suc k) = P m × Each P (suc m) k
+
+each-at : (P : ℕ → Type 0) (m k : ℕ) → Each P m k → (n : ℕ) → m ≤ n → n < m + k → P n
+each-at P m zero all n l h = absurd (omega arith)
+each-at P m (suc k) all n l h = by-first (ℕ-discrete n m) (λ q. each-at P (suc m) k (all .1) n q (omega arith))
+  where
+    by-first : Dec (n ≡ m) → (suc m ≤ n → P n) → P n
+    by-first (yes e) more = subst P (sym e) (all .0)
+    by-first (no e) more = more (omega (arith, e))
+
+module _ (n : ℕ) (started : Bool) where
+  pub turn-before : 1 ≤ n → n ≤ 8 → inTurnIn (kindOf n) started ≡ not started
+  turn-before l h = each-at (λ i. inTurnIn (kindOf i) started ≡ not started) 1 8 (refl, (refl, (refl, (refl, (refl, (refl, (refl, (refl, tt)))))))) n l (omega arith)
+
+  pub turn-after : 9 ≤ n → n ≤ 10 → inTurnIn (kindOf n) started ≡ started
+  turn-after l h = each-at (λ i. inTurnIn (kindOf i) started ≡ started) 9 2 (refl, (refl, tt)) n l (omega arith)
+
+  pub turn-never : (0 < n → 10 < n) → inTurnIn (kindOf n) started ≡ false
+  turn-never h = ap (λ (o : Option Kind). inTurnIn o started) (no-kind n h)
+
+-- ---- the ways to read
+
+module _ (started : Bool) (s : List ℕ) where
+  unknown-as : (o : Option Kind) → lengthIn o ≡ 0 → readAs o started s ≡ Refused UnknownKind
   unfolding readAs
   unknown-as none e = refl
   unknown-as (some k) e = absurd (omega (arith, length-positive k))
 
-  cut-as : (o : Option Kind) → (lengthIn o ≡ 0 → ⊥) → length s < lengthIn o → readAs o inTurn s ≡ Refused CutShort
+  cut-as : (o : Option Kind) → (lengthIn o ≡ 0 → ⊥) → length s < lengthIn o → readAs o started s ≡ Refused CutShort
   unfolding readAs
   cut-as none n h = absurd (n refl)
-  cut-as (some k) n h = rw (lt-leb (lengthOf k) (length s) h)
+  cut-as (some k) n h = rw (lt-leb (recordLength k) (length s) h)
 
-  turn-as : (o : Option Kind) → (lengthIn o ≡ 0 → ⊥) → lengthIn o ≤ length s → inTurn ≡ false → readAs o inTurn s ≡ Refused OutOfTurn
+  turn-as : (o : Option Kind) → (lengthIn o ≡ 0 → ⊥) → lengthIn o ≤ length s → inTurnIn o started ≡ false → readAs o started s ≡ Refused OutOfTurn
   unfolding readAs
   turn-as none n h e = absurd (n refl)
-  turn-as (some k) n h e = rw (le-leb (lengthOf k) (length s) h, e)
+  turn-as (some k) n h e = rw (le-leb (recordLength k) (length s) h, e)
 
-  whole-as : (o : Option Kind) → (lengthIn o ≡ 0 → ⊥) → lengthIn o ≤ length s → inTurn ≡ true → readAs o inTurn s ≡ wholeIn o s
+  whole-as : (o : Option Kind) → (lengthIn o ≡ 0 → ⊥) → lengthIn o ≤ length s → inTurnIn o started ≡ true → readAs o started s ≡ wholeIn o s
   unfolding readAs
   whole-as none n h e = absurd (n refl)
-  whole-as (some k) n h e = rw (le-leb (lengthOf k) (length s) h, e)
+  whole-as (some k) n h e = rw (le-leb (recordLength k) (length s) h, e)
 
 -- eight octets, in two halves
 pub number-halves : (s : List ℕ) (at high low : ℕ) → high ≡ numberAt s at 4 → low ≡ numberAt s (at + 4) 4 → high * 4_294_967_296 + low ≡ numberAt s at 8
@@ -107,7 +105,7 @@ read-empty [] started e = refl
 read-empty (n ∷ s) started e = absurd (omega arith)
 
 -- an octet at least: reading goes by what the first one says
-pub read-first : (s : List ℕ) (started : Bool) → (length s ≡ 0 → ⊥) → readOf s started ≡ readAs (kindOf (getD s 0 0)) (inTurnOf (getD s 0 0) started) s
+pub read-first : (s : List ℕ) (started : Bool) → (length s ≡ 0 → ⊥) → readOf s started ≡ readAs (kindOf (getD s 0 0)) started s
 unfolding readOf
 read-first [] started h = absurd (h refl)
 read-first (n ∷ s) started h = refl
@@ -121,10 +119,10 @@ module _ (s : List ℕ) (started : Bool) (some-octet : length s ≡ 0 → ⊥) w
     read-cut h = read-first s started some-octet ∙ cut-as _ s (kindOf (getD s 0 0)) (λ z. known (e ∙ z)) (rw e at h)
 
     module _ (whole : u ≤ length s) where
-      pub read-turn : inTurnOf (getD s 0 0) started ≡ false → readOf s started ≡ Refused OutOfTurn
+      pub read-turn : inTurnIn (kindOf (getD s 0 0)) started ≡ false → readOf s started ≡ Refused OutOfTurn
       read-turn t = read-first s started some-octet ∙ turn-as _ s (kindOf (getD s 0 0)) (λ z. known (e ∙ z)) (rw e at whole) t
 
-      pub read-whole : inTurnOf (getD s 0 0) started ≡ true → readOf s started ≡ wholeIn (kindOf (getD s 0 0)) s
+      pub read-whole : inTurnIn (kindOf (getD s 0 0)) started ≡ true → readOf s started ≡ wholeIn (kindOf (getD s 0 0)) s
       read-whole t = read-first s started some-octet ∙ whole-as _ s (kindOf (getD s 0 0)) (λ z. known (e ∙ z)) (rw e at whole) t
 
 -- ---- the body

@@ -1,23 +1,24 @@
 -- What follows from the definition of reading: it depends on nothing past the record's end; what is read encodes to the same octets; no record
 -- of one kind is read as another.
 use Prim.Native.Nat.{ℕ, zero, suc, _+_, _*_, _/_, _%_, _≤_, _<_}
-use mathlib.Core.Bool.{Bool, true, false, cond}
+use mathlib.Core.Bool.{Bool, true, false, cond, _&&_}
 use mathlib.Core.List.{List, [], _∷_, _++_}
 use mathlib.Core.Option.{Option, none, some}
 use mathlib.Core.Path.{_≡_, refl, sym, ap, _∙_}
 use native.Mathlib.Omega.{arith}
-use borrow.Author.Tests.{le-leb, leb-true}
-use lib.Dec.{leb}
-use lib.ListN.{length, getD, take, drop, length-append, length-drop, List·getD-append, List·getD-eq-default}
+use borrow.Author.Tests.{le-leb, leb-true, eqb-true, not-true}
+use lib.Dec.{leb, eqb}
+use lib.ListN.{length, getD, take, drop, length-append, length-drop, List·getD-append}
 use lib.Seq.{take-suc, drop-cons, take-add, drop-drop, getD-drop}
+use Rattle.logic.specs.Laws.{both}
 use Rattle.record.specs.declared.Record.{Record}
 use Rattle.record.specs.declared.Refusal.{Refusal}
 use Rattle.record.specs.declared.Refusal.the-variants.{CutShort, OutOfRange, OutOfTurn}
 use Rattle.record.specs.declared.Reading.{Reading}
 use Rattle.record.specs.declared.Reading.the-variants.{Refused, Taken}
-use Rattle.record.specs.Kinds.{Kind, port, filter, gate, gate-entry, meter, group, scheduler, start, arrival, clear, kinds, kindOf, octetOf, Field, fieldsOf, widthsOf, inRangeOf, numberAt, valuesAt, octetsOf, encodedOf}
-use Rattle.record.specs.Read.{recordOf, kindIn, valuesIn, encodedIn, lengthOf, inTurnOf, readAs, readOf}
-use Rattle.record.specs.Cases.{by-kind, length-positive}
+use Rattle.record.specs.Meaning.{Kind, port, filter, gate, gate-entry, meter, group, scheduler, start, arrival, clear, kinds, kindOf, Turn, before, after, Field, octetOf, turnOf, fieldsOf, widthsOf, fieldsInRange, numberAt, valuesAt, bigEndianOf, encodedOf, recordOf, recordLength, lengthIn, comes, inTurnOf, inTurnIn, readAs, readOf}
+use Rattle.record.specs.Sorts.{turnIn, Setup}
+use Rattle.record.specs.Cases.{length-positive, read-turn}
 
 -- ---- octets that agree say the same numbers
 
@@ -53,21 +54,21 @@ cond-taken false x f r u e = absurd (not-taken e)
 pub record Says (s : List ℕ) (started : Bool) (r : Record) (used : ℕ) : Type 0 where
   pub kind : Kind
   pub said : kindOf (getD s 0 0) ≡ some kind
-  pub whole : lengthOf kind ≤ length s
-  pub in-turn : inTurnOf (getD s 0 0) started ≡ true
-  pub in-range : inRangeOf kind (valuesAt s 1 (fieldsOf kind)) ≡ true
+  pub whole : recordLength kind ≤ length s
+  pub in-turn : inTurnOf kind started ≡ true
+  pub in-range : fieldsInRange kind (valuesAt s 1 (fieldsOf kind)) ≡ true
   pub is : recordOf kind (valuesAt s 1 (fieldsOf kind)) ≡ r
-  pub uses : lengthOf kind ≡ used
+  pub uses : recordLength kind ≡ used
 
 module _ (s : List ℕ) (started : Bool) (r : Record) (used : ℕ) where
-  says-as : (o : Option Kind) → kindOf (getD s 0 0) ≡ o → readAs o (inTurnOf (getD s 0 0) started) s ≡ Taken r used → Says s started r used
+  says-as : (o : Option Kind) → kindOf (getD s 0 0) ≡ o → readAs o started s ≡ Taken r used → Says s started r used
   unfolding readAs
   says-as none q e = absurd (not-taken e)
   says-as (some k) q e =
-      let a = cond-taken (leb (lengthOf k) (length s)) _ CutShort r used e in
-      let b = cond-taken (inTurnOf (getD s 0 0) started) _ OutOfTurn r used (a .1) in
-      let c = cond-taken (inRangeOf k (valuesAt s 1 (fieldsOf k))) _ OutOfRange r used (b .1) in
-      let d : Taken (recordOf k (valuesAt s 1 (fieldsOf k))) (lengthOf k) ≡ Taken r used = c .1 in
+      let a = cond-taken (leb (recordLength k) (length s)) _ CutShort r used e in
+      let b = cond-taken (inTurnOf k started) _ OutOfTurn r used (a .1) in
+      let c = cond-taken (fieldsInRange k (valuesAt s 1 (fieldsOf k))) _ OutOfRange r used (b .1) in
+      let d : Taken (recordOf k (valuesAt s 1 (fieldsOf k))) (recordLength k) ≡ Taken r used = c .1 in
       record { kind = k; said = q; whole = leb-true _ _ (a .0); in-turn = b .0; in-range = c .0; is = cc; uses = cc }
 
 pub read-says : (s : List ℕ) (started : Bool) (r : Record) (used : ℕ) → readOf s started ≡ Taken r used → Says s started r used
@@ -79,7 +80,7 @@ pub says-read : (s : List ℕ) (started : Bool) (r : Record) (used : ℕ) → Sa
 unfolding readOf readAs
 says-read [] started r used y = absurd (none-some (y .kind) (y .said))
 says-read (n ∷ s) started r used y =
-    rw (y .said, le-leb (lengthOf (y .kind)) (length (n ∷ s)) (y .whole), y .in-turn, y .in-range, y .is, y .uses)
+    rw (y .said, le-leb (recordLength (y .kind)) (length (n ∷ s)) (y .whole), y .in-turn, y .in-range, y .is, y .uses)
 
 -- a record uses an octet at least, and no more than are there
 pub read-uses : (s : List ℕ) (started : Bool) (r : Record) (used : ℕ) → readOf s started ≡ Taken r used → (1 ≤ used) × (used ≤ length s)
@@ -101,8 +102,8 @@ read-front s t started r used e h l =
       kind = y .kind;
       said = ap kindOf (sym first) ∙ y .said;
       whole = omega (arith, y .uses);
-      in-turn = ap (λ (n : ℕ). inTurnOf n started) (sym first) ∙ y .in-turn;
-      in-range = ap (inRangeOf (y .kind)) (sym same) ∙ y .in-range;
+      in-turn = y .in-turn;
+      in-range = ap (fieldsInRange (y .kind)) (sym same) ∙ y .in-range;
       is = ap (recordOf (y .kind)) (sym same) ∙ y .is;
       uses = y .uses;
     })
@@ -111,63 +112,81 @@ by-test : {A : Type 0} (b : Bool) → (b ≡ true → A) → (b ≡ false → A)
 by-test true f g = f refl
 by-test false f g = g refl
 
-as-extends : (o : Option Kind) (inTurn : Bool) (s t : List ℕ) → (readAs o inTurn s ≡ Refused CutShort → ⊥) → readAs o inTurn (s ++ t) ≡ readAs o inTurn s
+as-extends : (o : Option Kind) (started : Bool) (s t : List ℕ) → (readAs o started s ≡ Refused CutShort → ⊥) → readAs o started (s ++ t) ≡ readAs o started s
 unfolding readAs
-as-extends none inTurn s t n = refl
-as-extends (some k) inTurn s t n =
-    by-test (leb (lengthOf k) (length s))
+as-extends none started s t n = refl
+as-extends (some k) started s t n =
+    by-test (leb (recordLength k) (length s))
     (λ e.
-    let h : lengthOf k ≤ length s = leb-true _ _ e in
+    let h : recordLength k ≤ length s = leb-true _ _ e in
     let same : valuesAt (s ++ t) 1 (fieldsOf k) ≡ valuesAt s 1 (fieldsOf k)
     = values-agree (s ++ t) s (fieldsOf k) 1 (λ i l m. List·getD-append s t 0 i (omega (arith, m))) in
-    rw (le-leb (lengthOf k) (length (s ++ t)) (omega (arith, length-append s t)), e, same))
+    rw (le-leb (recordLength k) (length (s ++ t)) (omega (arith, length-append s t)), e, same))
     (λ e. absurd (n (rw e)))
 
 -- what is not cut short is read the same whatever follows: a cut record alone has to wait for more
 pub read-extends : (s t : List ℕ) (started : Bool) → (readOf s started ≡ Refused CutShort → ⊥) → readOf (s ++ t) started ≡ readOf s started
 unfolding readOf
 read-extends [] t started n = absurd (n refl)
-read-extends (x ∷ s) t started n = as-extends (kindOf x) (inTurnOf x started) (x ∷ s) t n
+read-extends (x ∷ s) t started n = as-extends (kindOf x) started (x ∷ s) t n
 
--- ---- no record of one kind is read as another
+-- ---- no record of one kind is read as another, and none out of its turn
 
-some-octet : (n : ℕ) (k j : Kind) → some j ≡ some k → octetOf j ≡ n → octetOf k ≡ n
-some-octet n k j e q = let z : j ≡ k = cc in rw z at q
+-- each kind of the list stands where its octet says, the first at m
+abbrev numbered : ℕ → List (Option Kind) → Bool
+numbered m [] = true
+numbered m (none ∷ ks) = numbered (suc m) ks
+numbered m (some k ∷ ks) = eqb (octetOf k) m && numbered (suc m) ks
+
+numbered-at : (m : ℕ) (ks : List (Option Kind)) → numbered m ks ≡ true → (i : ℕ) (k : Kind) → getD ks i none ≡ some k → octetOf k ≡ m + i
+numbered-at m [] h i k e = absurd (none-some k e)
+numbered-at m (none ∷ ks) h zero k e = absurd (none-some k e)
+numbered-at m (none ∷ ks) h (suc i) k e = omega (arith, numbered-at (suc m) ks h i k e)
+numbered-at m (some j ∷ ks) h zero k e =
+    let same : k ≡ j = cc in
+    omega (arith, ap octetOf same, eqb-true (octetOf j) m (both (eqb (octetOf j) m) (numbered (suc m) ks) h .0))
+numbered-at m (some j ∷ ks) h (suc i) k e =
+    omega (arith, numbered-at (suc m) ks (both (eqb (octetOf j) m) (numbered (suc m) ks) h .1) i k e)
 
 pub kind-octet : (n : ℕ) (k : Kind) → kindOf n ≡ some k → octetOf k ≡ n
-kind-octet =
-    by-kind
-    (λ n. (k : Kind) → kindOf n ≡ some k → octetOf k ≡ n)
-    (λ k e. absurd (none-some k e))
-    (λ k e. some-octet 1 k port e refl)
-    (λ k e. some-octet 2 k filter e refl)
-    (λ k e. some-octet 3 k gate e refl)
-    (λ k e. some-octet 4 k gate-entry e refl)
-    (λ k e. some-octet 5 k meter e refl)
-    (λ k e. some-octet 6 k group e refl)
-    (λ k e. some-octet 7 k scheduler e refl)
-    (λ k e. some-octet 8 k start e refl)
-    (λ k e. some-octet 9 k arrival e refl)
-    (λ k e. some-octet 10 k clear e refl)
-    (λ n h k e. absurd (none-some k (sym (List·getD-eq-default kinds none h) ∙ e)))
-
-pub record-kind : (k : Kind) (vs : List ℕ) → kindIn (recordOf k vs) ≡ k
-record-kind port vs = refl
-record-kind filter vs = refl
-record-kind gate vs = refl
-record-kind gate-entry vs = refl
-record-kind meter vs = refl
-record-kind group vs = refl
-record-kind scheduler vs = refl
-record-kind start vs = refl
-record-kind arrival vs = refl
-record-kind clear vs = refl
+kind-octet n k e = omega (arith, numbered-at 0 kinds refl n k e)
 
 -- the first octet is the number of the kind that is read
-pub read-kind : (s : List ℕ) (started : Bool) (r : Record) (used : ℕ) → readOf s started ≡ Taken r used → octetOf (kindIn r) ≡ getD s 0 0
-read-kind s started r used e =
+pub read-kind : (s : List ℕ) (started : Bool) (r : Record) (used : ℕ) (e : readOf s started ≡ Taken r used) → octetOf (read-says s started r used e .kind) ≡ getD s 0 0
+read-kind s started r used e = let y = read-says s started r used e in kind-octet (getD s 0 0) (y .kind) (y .said)
+
+-- a kind's records come when the kind does
+kind-turn : (k : Kind) (vs : List ℕ) → turnIn (recordOf k vs) ≡ turnOf k
+kind-turn port vs = refl
+kind-turn filter vs = refl
+kind-turn gate vs = refl
+kind-turn gate-entry vs = refl
+kind-turn meter vs = refl
+kind-turn group vs = refl
+kind-turn scheduler vs = refl
+kind-turn start vs = refl
+kind-turn arrival vs = refl
+kind-turn clear vs = refl
+
+pub read-in-turn : (s : List ℕ) (started : Bool) (r : Record) (used : ℕ) → readOf s started ≡ Taken r used → comes (turnIn r) started ≡ true
+read-in-turn s started r used e =
     let y = read-says s started r used e in
-    ap (λ (q : Record). octetOf (kindIn q)) (sym (y .is)) ∙ ap octetOf (record-kind (y .kind) _) ∙ kind-octet (getD s 0 0) (y .kind) (y .said)
+    ap (λ (t : Turn). comes t started) (ap turnIn (sym (y .is)) ∙ kind-turn (y .kind) _) ∙ y .in-turn
+
+pub read-setup : (s : List ℕ) (started : Bool) (r : Record) (used : ℕ) → readOf s started ≡ Taken r used → Setup r → started ≡ false
+read-setup s started r used e h = not-true started (ap (λ (t : Turn). comes t started) (sym h) ∙ read-in-turn s started r used e)
+
+turned : (t : Turn) → comes t false ≡ true → comes t true ≡ false
+turned before e = refl
+turned after e = sym e
+
+-- what is read before a start is out of turn after it
+pub read-late : (s : List ℕ) (r : Record) (used : ℕ) → readOf s false ≡ Taken r used → readOf s true ≡ Refused OutOfTurn
+read-late s r used e =
+    let y = read-says s false r used e in
+    let some-octet = length-positive (y .kind) in
+    read-turn s true (λ z. omega (arith, y .whole, some-octet, z)) (recordLength (y .kind)) (sym (ap lengthIn (y .said))) (λ z. omega (arith, some-octet, z)) (y .whole)
+    (ap (λ (o : Option Kind). inTurnIn o true) (y .said) ∙ turned (turnOf (y .kind)) (y .in-turn))
 
 -- ---- what is read encodes to the same octets
 
@@ -175,7 +194,7 @@ abbrev pub Octets : List ℕ → Type 0
 Octets s = (i : ℕ) → getD s i 0 < 256
 
 module _ (s : List ℕ) (octets : Octets s) where
-  number-encodes : (at w : ℕ) → at + w ≤ length s → octetsOf w (numberAt s at w) ≡ take w (drop at s)
+  number-encodes : (at w : ℕ) → at + w ≤ length s → bigEndianOf w (numberAt s at w) ≡ take w (drop at s)
   number-encodes at zero h = refl
   number-encodes at (suc zero) h =
       let m : getD s at 0 % 256 ≡ getD s at 0 = omega (arith, octets at) in
@@ -193,32 +212,21 @@ module _ (s : List ℕ) (octets : Octets s) where
   values-encode (f ∷ fs) at h =
       rw (number-encodes at (f .width) (omega arith), values-encode fs (at + f .width) (omega arith), take-add (f .width) (widthsOf fs) (drop at s), drop-drop (f .width) at s)
 
-pub record-values : (k : Kind) (s : List ℕ) → valuesIn (recordOf k (valuesAt s 1 (fieldsOf k))) ≡ valuesAt s 1 (fieldsOf k)
-record-values port s = refl
-record-values filter s = refl
-record-values gate s = refl
-record-values gate-entry s = refl
-record-values meter s = refl
-record-values group s = refl
-record-values scheduler s = refl
-record-values start s = refl
-record-values arrival s = refl
-record-values clear s = refl
-
 front : (s : List ℕ) (n : ℕ) → 1 ≤ length s → getD s 0 0 ∷ take n (drop 1 s) ≡ take (1 + n) s
 front [] n h = absurd (omega arith)
 front (x ∷ s) n h = rw (take-add 1 n (x ∷ s))
 
-kind-encodes : (k : Kind) (s : List ℕ) → Octets s → kindOf (getD s 0 0) ≡ some k → lengthOf k ≤ length s → encodedIn (recordOf k (valuesAt s 1 (fieldsOf k))) ≡ take (lengthOf k) s
-kind-encodes k s o q h =
+-- the octet of the kind, then its fields' values as they were read
+pub read-encodes : (s : List ℕ) (started : Bool) (r : Record) (used : ℕ) → Octets s → (e : readOf s started ≡ Taken r used)
+    → let k = read-says s started r used e .kind in
     let vs = valuesAt s 1 (fieldsOf k) in
-    ap (λ (j : Kind). octetOf j ∷ encodedOf (fieldsOf j) (valuesIn (recordOf k vs))) (record-kind k vs)
-    ∙ ap (λ (us : List ℕ). octetOf k ∷ encodedOf (fieldsOf k) us) (record-values k s)
-    ∙ ap (λ (b : List ℕ). octetOf k ∷ b) (values-encode s o (fieldsOf k) 1 h)
-    ∙ ap (λ (n : ℕ). n ∷ take (widthsOf (fieldsOf k)) (drop 1 s)) (kind-octet (getD s 0 0) k q)
-    ∙ front s (widthsOf (fieldsOf k)) (omega arith)
-
-pub read-encodes : (s : List ℕ) (started : Bool) (r : Record) (used : ℕ) → Octets s → readOf s started ≡ Taken r used → encodedIn r ≡ take used s
+    (octetOf k ∷ encodedOf (fieldsOf k) vs ≡ take used s) × (recordOf k vs ≡ r)
 read-encodes s started r used o e =
     let y = read-says s started r used e in
-    sym (ap encodedIn (y .is)) ∙ kind-encodes (y .kind) s o (y .said) (y .whole) ∙ ap (λ (n : ℕ). take n s) (y .uses)
+    let fs = fieldsOf (y .kind) in (
+      ap (λ (b : List ℕ). octetOf (y .kind) ∷ b) (values-encode s o fs 1 (y .whole))
+          ∙ ap (λ (n : ℕ). n ∷ take (widthsOf fs) (drop 1 s)) (read-kind s started r used e)
+          ∙ front s (widthsOf fs) (omega (arith, y .whole))
+          ∙ ap (λ (n : ℕ). take n s) (y .uses),
+      y .is,
+    )

@@ -1,6 +1,5 @@
-pub mod Kinds
-pub mod Read
-pub mod Body
+pub mod Meaning
+pub mod Sorts
 pub mod Cases
 pub mod Laws
 pub mod Ranges

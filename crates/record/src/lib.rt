@@ -1,14 +1,12 @@
 // The reader of document 01's records: octets, and whether a start was taken, give a refusal, or a record and how many octets it uses.
-// specs/Kinds.antt is the table of fields that all of this follows, specs/Read.antt says what reading means, specs/Body.antt what is shown.
+// specs/Meaning.antt has the table of kinds and fields that all of this follows, what reading means, and what is shown of a record.
 use bucket::Octets;
 use bucket::Rate;
 ghost use mathlib.Core.Bool.{cond};
 ghost use mathlib.Core.Path.{_≡_};
 ghost use Prim.Native.Nat.{ℕ, _+_, _≤_, _<_};
 ghost use lib.ListN.{length};
-ghost use Rattle.record.specs.Kinds.{kindOf, numberAt, port, filter, gate, gate-entry, meter, group, scheduler, start, arrival, clear};
-ghost use Rattle.record.specs.Read.{numberOf, inTurnOf, wholeOf, readOf, lengthIn, wholeIn};
-ghost use Rattle.record.specs.Body.{viewOf, bodyOf};
+ghost use Rattle.record.specs.Meaning.{kindOf, numberAt, port, filter, gate, gate-entry, meter, group, scheduler, start, arrival, clear, refusalNumberOf, wholeOf, readOf, lengthIn, inTurnIn, wholeIn, viewOf, bodyOf};
 
 // 01, kind 1. The overhead is in octets.
 pub struct PortRecord {
@@ -172,7 +170,7 @@ pub fn body(input: &[u8], used: usize) -> &[u8]
 // Document 01's number of a refusal.
 // Ruled out: numbers counted from 0; 3 and 4 the other way round, in the order in which they are tried.
 pub fn number(r: Refusal) -> u8
-    ensures { λ n. ⌜ n ≡ numberOf r ⌝ }
+    ensures { λ n. ⌜ n ≡ refusalNumberOf r ⌝ }
 {
     match r {
         Refusal::CutShort => 1,
@@ -210,9 +208,13 @@ fn record_length(kind: u8) -> usize
 
 // 01, Records: kinds 1 to 8 before a start is taken, 9 and 10 after it.
 fn in_turn(kind: u8, started: bool) -> bool
-    ensures { λ r. ⌜ r ≡ inTurnOf kind started ⌝ }
+    ensures { λ r. ⌜ r ≡ inTurnIn (kindOf kind) started ⌝ }
 {
-    if kind <= 8 { !started } else { started }
+    match kind {
+        1..=8 => !started,
+        9 | 10 => started,
+        _ => false,
+    }
 }
 
 // A record whose octets are all there.
@@ -252,7 +254,7 @@ fn read_port(s: &[u8]) -> Reading
 {
     let port = s[1];
     let overhead = s[2];
-    let fits = (port <= 7) & (overhead <= 64);
+    let fits = (port <= sizes::LAST_PORT) & (overhead <= 64);
     let r = PortRecord {
         port: port,
         overhead: overhead,
@@ -275,14 +277,14 @@ fn read_filter(s: &[u8]) -> Reading
     let scheduler = s[13];
     // A filter for any handle has handle 0.
     let fits = ((any_handle != 1) | (handle == 0))
-        & (id <= 63)
+        & (id <= sizes::LAST_FILTER)
         & (any_handle <= 1)
         & (priority <= 8)
-        & (gate <= 15)
+        & (gate <= sizes::LAST_GATE)
         & (max_sdu <= 2000)
         & (oversize_block <= 1)
-        & ((meter <= 15) | (meter == 255))
-        & ((scheduler <= 31) | (scheduler == 255));
+        & ((meter <= sizes::LAST_METER) | (meter == 255))
+        & ((scheduler <= sizes::LAST_SCHEDULER) | (scheduler == 255));
     let r = FilterRecord {
         id: id,
         any_handle: any_handle,
@@ -307,7 +309,7 @@ fn read_gate(s: &[u8]) -> Reading
     let invalid_receive_block = s[4];
     let octets_block = s[5];
     let base_time = read_w8(s, 6);
-    let fits = (id <= 15)
+    let fits = (id <= sizes::LAST_GATE)
         & (state <= 1)
         & (ipv <= 8)
         & (invalid_receive_block <= 1)
@@ -333,7 +335,7 @@ fn read_gate_entry(s: &[u8]) -> Reading
     let ipv = s[3];
     let interval = read_w4(s, 4);
     let octet_maximum = read_w4(s, 8);
-    let fits = (gate <= 15)
+    let fits = (gate <= sizes::LAST_GATE)
         & (state <= 1)
         & (ipv <= 8)
         & (1 <= interval)
@@ -361,7 +363,7 @@ fn read_meter(s: &[u8]) -> Reading
     let colour_aware = s[27];
     let drop_on_yellow = s[28];
     let red_block = s[29];
-    let fits = (id <= 15)
+    let fits = (id <= sizes::LAST_METER)
         & (cir <= 10_000_000_000)
         & (cbs <= 1_000_000)
         & (eir <= 10_000_000_000)
@@ -390,7 +392,7 @@ fn read_group(s: &[u8]) -> Reading
 {
     let id = s[1];
     let residence = read_w4(s, 2);
-    let fits = (id <= 15) & (1 <= residence) & (residence <= 1_000_000_000);
+    let fits = (id <= sizes::LAST_GROUP) & (1 <= residence) & (residence <= 1_000_000_000);
     let r = GroupRecord {
         id: id,
         residence: residence,
@@ -406,8 +408,8 @@ fn read_scheduler(s: &[u8]) -> Reading
     let group = s[2];
     let cir = read_w8(s, 3);
     let cbs = read_w4(s, 11);
-    let fits = (id <= 31)
-        & (group <= 15)
+    let fits = (id <= sizes::LAST_SCHEDULER)
+        & (group <= sizes::LAST_GROUP)
         & (1 <= cir)
         & (cir <= 10_000_000_000)
         & (1 <= cbs)
@@ -441,7 +443,7 @@ fn read_arrival(s: &[u8]) -> Reading
     let priority = s[14];
     let drop_eligible = s[15];
     let msdu = read_w2(s, 16);
-    let fits = (port <= 7)
+    let fits = (port <= sizes::LAST_PORT)
         & (time <= 4_611_686_018_427_387_904)
         & (priority <= 7)
         & (drop_eligible <= 1)
@@ -464,7 +466,9 @@ fn read_clear(s: &[u8]) -> Reading
     let flag = s[1];
     let id = s[2];
     // The id is a filter's for flag 1, and a gate's or a meter's for the others.
-    let fits = ((id <= 15) | ((flag == 1) & (id <= 63))) & (1 <= flag) & (flag <= 4);
+    let fits = ((id <= sizes::LAST_GATE) | ((flag == 1) & (id <= sizes::LAST_FILTER)))
+        & (1 <= flag)
+        & (flag <= 4);
     let r = ClearRecord { flag: flag, id: id };
     take_ranged(fits, Record::Clear(r), 3)
 }

@@ -1,2 +1,1 @@
-pub mod Front
 pub mod Piece

@@ -7,7 +7,7 @@ use native.Mathlib.Omega.{arith}
 use lib.ListN.{length, take, drop, length-take, length-drop}
 use Rattle.record.specs.declared.Record.{Record}
 use Rattle.record.specs.declared.Reading.the-variants.{Taken}
-use Rattle.record.specs.Read.{readOf}
+use Rattle.record.specs.Meaning.{readOf}
 use Rattle.record.specs.Laws.{read-uses}
 
 pub inside : (s : List ℕ) (at : ℕ) (started : Bool) (r : Record) (used : ℕ) → at ≤ length s → readOf (take (length s - at) (drop at s)) started ≡ Taken r used → at + used ≤ length s

@@ -6,8 +6,8 @@ use record::Reading;
 use record::Record;
 use record::Refusal;
 ghost use mathlib.Core.Path.{_≡_};
-ghost use Prim.Native.Nat.{ℕ, _+_, _-_, _<_, _≤_};
-ghost use lib.ListN.{length, getD};
+ghost use Prim.Native.Nat.{_≤_};
+ghost use lib.ListN.{length};
 
 // Where the reading of a piece stands: the octets of the piece that are read, the octets read in all, whether a start was read, the octets of
 // the output that wait to be written, whether to go on in this piece, and whether nothing more is to be read at all.
@@ -18,32 +18,6 @@ struct Progress {
     filled: usize,
     more: bool,
     ended: bool,
-}
-
-// Reads once, behind the octets that are kept, and answers how many octets there are now.
-fn fill(buf: &mut [u8], kept: usize) -> usize
-    ensures { λ r. ⌜ (r ≤ length (now (buf .exit))) × (length (now (buf .exit)) ≡ length (now (buf .entry))) ⌝ }
-{
-    if kept > buf.len() {
-        return 0;
-    }
-    let got = libc::read(0, &mut buf[kept..]);
-    let n = io::count(got, &buf[kept..]);
-    kept + n
-}
-
-// The octets from `from` to `end` move to the front: a record that is not whole waits there for its rest.
-fn keep(buf: &mut [u8], from: usize, end: usize) -> usize
-    requires { ⌜ (from ≤ end) × (end ≤ length (now buf)) ⌝ }
-    ensures { λ r. ⌜ (r ≡ end - from) × ((i : ℕ) → i < end - from → getD (now (buf .exit)) i 0 ≡ getD (now (buf .entry)) (from + i) 0) ⌝ }
-{
-    let n = end - from;
-    let mut i: usize = 0;
-    while i < n {
-        buf[i] = buf[from + i];
-        i += 1;
-    }
-    n
 }
 
 fn is_start(r: Record) -> bool {
@@ -117,14 +91,6 @@ fn step(input: &[u8], last: bool, p: Progress, out: &mut [u8]) -> Progress
     }
 }
 
-fn write_out(out: &[u8], filled: usize) -> bool {
-    if filled <= out.len() {
-        io::write_all(1, &out[..filled])
-    } else {
-        false
-    }
-}
-
 // The output is written once half of its buffer is filled. Where that fails nothing more is read.
 fn emptied(p: Progress, out: &[u8]) -> Progress
     ensures { λ r. ⌜ r .at ≡ p .at ⌝ }
@@ -132,7 +98,7 @@ fn emptied(p: Progress, out: &[u8]) -> Progress
     if p.filled < 32_768 {
         return p;
     }
-    let is_written = write_out(out, p.filled);
+    let is_written = pieces::write(out, p.filled);
     Progress {
         at: p.at,
         offset: p.offset,
@@ -160,7 +126,7 @@ fn print_piece(input: &[u8], last: bool, p: Progress, out: &mut [u8]) -> Progres
 // One piece: read, print, keep what is not whole at the front.
 fn turn(p: Progress, buf: &mut [u8], out: &mut [u8]) -> Progress {
     let kept = p.at;
-    let end = fill(buf, kept);
+    let end = pieces::fill(buf, kept, true);
     let from = Progress {
         at: 0,
         offset: p.offset,
@@ -170,7 +136,7 @@ fn turn(p: Progress, buf: &mut [u8], out: &mut [u8]) -> Progress {
         ended: false,
     };
     let to = print_piece(&buf[..end], end <= kept, from, out);
-    let left = keep(buf, to.at, end);
+    let left = pieces::keep(buf, to.at, end);
     Progress {
         at: left,
         offset: to.offset,
@@ -195,7 +161,7 @@ fn print_all(buf: &mut [u8], out: &mut [u8]) {
         p = turn(p, buf, out);
         turns -= 1;
     }
-    write_out(out, p.filled);
+    pieces::write(out, p.filled);
 }
 
 fn main() {

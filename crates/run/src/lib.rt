@@ -9,10 +9,10 @@ use verdict::Verdict;
 ghost use mathlib.Core.Path.{_≡_};
 ghost use Prim.Native.Nat.{_+_};
 ghost use lib.ListN.{length, drop};
-ghost use Rattle.bank.specs.Rows.{rowsOf};
-ghost use Rattle.stage.specs.Take.{bridge};
-ghost use Rattle.text.specs.Page.{page};
-ghost use Rattle.run.specs.Run.{told, toldOf, roomOf, fewerOf, ran, runOf, advancedOf, stoppedOf, toldBy, freshOf, againOf};
+ghost use Rattle.bank.specs.Meaning.{rowsOf};
+ghost use Rattle.stage.specs.Meaning.{bridge};
+ghost use Rattle.text.specs.Meaning.{page};
+ghost use Rattle.run.specs.Meaning.{printed, printedOf, roomOf, fewerOf, ran, pieceRunOf, advancedOf, stoppedOf, printedBy, freshProgressOf, againOf};
 
 // How far a run is.
 pub struct Progress {
@@ -34,7 +34,7 @@ pub struct Progress {
 // Before the first piece.
 // Ruled out: a count that does not begin at 0; lines where none are wanted.
 pub fn fresh(quiet: bool) -> Progress
-    ensures { λ r. ⌜ r ≡ freshOf quiet ⌝ }
+    ensures { λ r. ⌜ r ≡ freshProgressOf quiet ⌝ }
 {
     Progress {
         at: 0,
@@ -73,7 +73,7 @@ pub fn run(
     out: &mut [u8],
     from: Progress,
 ) -> Progress
-    ensures { λ r. ⌜ ran (now (table .exit)) (rowsOf (now (bank .exit))) (now (lists .exit)) (now (out .exit)) r ≡ runOf (length (now (input .entry))) (now (input .entry)) (bridge (now (table .entry)) (rowsOf (now (bank .entry))) (now (lists .entry))) (now (out .entry)) from ⌝ }
+    ensures { λ r. ⌜ ran (now (table .exit)) (rowsOf (now (bank .exit))) (now (lists .exit)) (now (out .exit)) r ≡ pieceRunOf (length (now (input .entry))) (now (input .entry)) (bridge (now (table .entry)) (rowsOf (now (bank .entry))) (now (lists .entry))) (now (out .entry)) from ⌝ }
 {
     let mut p = from;
     let mut turns = input.len();
@@ -87,21 +87,21 @@ pub fn run(
 }
 
 pub struct Chunk {
-    pub table: [Filter; 64],
+    pub table: [Filter; sizes::FILTERS],
     pub progress: Progress,
 }
 
 // The same with the table by value: it is copied for a piece of input and not for a record.
 // Ruled out: the table as it was; the progress of another piece.
 pub fn run_piece(
-    table: [Filter; 64],
+    table: [Filter; sizes::FILTERS],
     bank: &mut Words,
     lists: &mut Lists,
     input: &[u8],
     out: &mut [u8],
     from: Progress,
 ) -> Chunk
-    ensures { λ r. ⌜ ran (r .table) (rowsOf (now (bank .exit))) (now (lists .exit)) (now (out .exit)) (r .progress) ≡ runOf (length (now (input .entry))) (now (input .entry)) (bridge table (rowsOf (now (bank .entry))) (now (lists .entry))) (now (out .entry)) from ⌝ }
+    ensures { λ r. ⌜ ran (r .table) (rowsOf (now (bank .exit))) (now (lists .exit)) (now (out .exit)) (r .progress) ≡ pieceRunOf (length (now (input .entry))) (now (input .entry)) (bridge table (rowsOf (now (bank .entry))) (now (lists .entry))) (now (out .entry)) from ⌝ }
 {
     let mut t = table;
     let p = run(&mut t, bank, lists, input, out, from);
@@ -134,19 +134,19 @@ fn fewer(turns: usize, more: bool) -> usize
     0
 }
 
-// The longest line has 53 octets.
+// Whether there is room for a line.
 fn room(places: usize, filled: usize) -> bool
     ensures { λ r. ⌜ r ≡ roomOf places filled ⌝ }
 {
-    if places < 64 {
+    if places < text::LINE {
         return false;
     }
-    filled <= places - 64
+    filled <= places - text::LINE
 }
 
 // The answer to a record is told, and the run is one record further.
 fn tell(out: &mut [u8], p: Progress, answer: Answer) -> Progress
-    ensures { λ r. ⌜ told (now (out .exit)) r ≡ toldOf (now (out .entry)) p answer ⌝ }
+    ensures { λ r. ⌜ printed (now (out .exit)) r ≡ printedOf (now (out .entry)) p answer ⌝ }
 {
     let used = answer.used;
     let verdict = answer.verdict;
@@ -159,7 +159,7 @@ fn tell(out: &mut [u8], p: Progress, answer: Answer) -> Progress
 }
 
 fn tell_pass(out: &mut [u8], p: Progress, used: usize, pass: Pass) -> Progress
-    ensures { λ r. ⌜ told (now (out .exit)) r ≡ toldBy (now (out .entry)) p used (Verdict.Passed pass) ⌝ }
+    ensures { λ r. ⌜ printed (now (out .exit)) r ≡ printedBy (now (out .entry)) p used (Verdict.Passed pass) ⌝ }
 {
     let places = out.len();
     let arrival = std::num::wrapping_add_u64(p.arrivals, 1);
@@ -171,7 +171,7 @@ fn tell_pass(out: &mut [u8], p: Progress, used: usize, pass: Pass) -> Progress
 }
 
 fn tell_drop(out: &mut [u8], p: Progress, used: usize, d: Drop) -> Progress
-    ensures { λ r. ⌜ told (now (out .exit)) r ≡ toldBy (now (out .entry)) p used (Verdict.Dropped d) ⌝ }
+    ensures { λ r. ⌜ printed (now (out .exit)) r ≡ printedBy (now (out .entry)) p used (Verdict.Dropped d) ⌝ }
 {
     let places = out.len();
     let arrival = std::num::wrapping_add_u64(p.arrivals, 1);

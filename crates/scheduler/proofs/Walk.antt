@@ -17,7 +17,7 @@ use denote.Enum.Laws as LE
 use denote.Triple.Statement.{Contract}
 use denote.Triple.Spec.{tripleOf}
 use denote.Triple.Clauses.{ensured, lasts}
-use Rattle.scheduler.specs.Step.{stepOf}
+use Rattle.scheduler.specs.Meaning.{schedulerStepOf}
 use Rattle.bucket.specs.declared.Octets.{Octets}
 use Rattle.scheduler.specs.declared.Scheduler.{Scheduler}
 use Rattle.scheduler.specs.declared.Stepped.{Stepped}
@@ -61,5 +61,5 @@ module _ {M : Type 1} (𝓤 : URA M) (H : Heap 𝓤) (A : Atoms 𝓤) (at-mem : 
   Callee = tripleOf 𝓤 H A callee.signature (callee.spec 𝓤 H A at-mem run)
 
   -- of the callee's `ensured`, the clause alone
-  pub gave-of : (h : Scheduler) (g w t : ℕ) (n : Octets) (r : Stepped) → ent 𝓤 (ensured 𝓤 H A callee.ended (callee.clauses 𝓤 H A at-mem run) tt (h, (g, (w, (t, (n, tt))))) tt r) (fact 𝓤 (r ≡ stepOf h g w t n))
-  gave-of h g w t n r = exE 𝓤 _ (λ ws. snd∗ 𝓤 (sem 𝓤 H A (lasts callee.ended tt (h, (g, (w, (t, (n, tt))))) ws)) (fact 𝓤 (r ≡ stepOf h g w t n)))
+  pub gave-of : (h : Scheduler) (g w t : ℕ) (n : Octets) (r : Stepped) → ent 𝓤 (ensured 𝓤 H A callee.ended (callee.clauses 𝓤 H A at-mem run) tt (h, (g, (w, (t, (n, tt))))) tt r) (fact 𝓤 (r ≡ schedulerStepOf h g w t n))
+  gave-of h g w t n r = exE 𝓤 _ (λ ws. snd∗ 𝓤 (sem 𝓤 H A (lasts callee.ended tt (h, (g, (w, (t, (n, tt))))) ws)) (fact 𝓤 (r ≡ schedulerStepOf h g w t n)))

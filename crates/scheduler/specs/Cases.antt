@@ -1,33 +1,33 @@
--- The three cases of `stepOf`, each from the facts that a step has in hand; and that what an admitted frame takes is there.
+-- The three cases of `schedulerStepOf`, each from the facts that a step has in hand; and that what an admitted frame takes is there.
 use Prim.Native.Nat.{ℕ, _+_, _-_, _≤_, _<_}
 use mathlib.Core.Bool.{true, false}
 use mathlib.Core.Path.{_≡_, _∙_}
 use native.Mathlib.Omega.{arith}
 use borrow.Author.Tests.{le-leb, lt-leb}
-use Rattle.bucket.specs.Bucket.{grains, grown, waitFor}
+use Rattle.bucket.specs.Meaning.{grains, grown, waitFor}
 use Rattle.bucket.specs.Laws.{wait-enough}
 use Rattle.bucket.specs.declared.Octets.{Octets}
 use Rattle.scheduler.specs.declared.Scheduler.{Scheduler}
 use Rattle.scheduler.specs.declared.Outcome.the-variants.{Admitted, Dropped, Refused}
-use Rattle.scheduler.specs.Step.{stepOf, decided, eligibleOf}
+use Rattle.scheduler.specs.Meaning.{schedulerStepOf, decided, eligibleOf}
 use Rattle.scheduler.specs.Range.{testOf, Ranged}
 
 module _ (s : Scheduler) (group residence arrival : ℕ) (length : Octets) where
-  pub step-refused : testOf s group residence arrival length ≡ false → stepOf s group residence arrival length ≡ record { scheduler = s; group = group; outcome = Refused }
-  unfolding stepOf
+  pub step-refused : testOf s group residence arrival length ≡ false → schedulerStepOf s group residence arrival length ≡ record { scheduler = s; group = group; outcome = Refused }
+  unfolding schedulerStepOf
   step-refused e = rw e
 
   module _ (e : testOf s group residence arrival length ≡ true) where
-    step-decided : stepOf s group residence arrival length ≡ decided s group (length .0) (eligibleOf s group arrival (length .0)) (arrival + residence)
-    unfolding stepOf
+    step-decided : schedulerStepOf s group residence arrival length ≡ decided s group (length .0) (eligibleOf s group arrival (length .0)) (arrival + residence)
+    unfolding schedulerStepOf
     step-decided = rw e
 
     module _ (at : ℕ) (is : at ≡ eligibleOf s group arrival (length .0)) where
-      pub step-dropped : arrival + residence < at → stepOf s group residence arrival length ≡ record { scheduler = s; group = group; outcome = Dropped }
+      pub step-dropped : arrival + residence < at → schedulerStepOf s group residence arrival length ≡ record { scheduler = s; group = group; outcome = Dropped }
       step-dropped h = step-decided ∙ rw (← is, lt-leb _ _ h)
 
       pub step-admitted : (left : ℕ) → at ≤ arrival + residence → left ≡ grown (s .level) (s .rate .0) (grains (s .burst .0)) (at - s .last)
-          → stepOf s group residence arrival length ≡ record { scheduler = record { rate = s .rate; burst = s .burst; level = left - grains (length .0); last = at }; group = at; outcome = Admitted at }
+          → schedulerStepOf s group residence arrival length ≡ record { scheduler = record { rate = s .rate; burst = s .burst; level = left - grains (length .0); last = at }; group = at; outcome = Admitted at }
       step-admitted left h e′ = step-decided ∙ rw (← is, le-leb _ _ h, ← e′)
 
   -- at the eligibility time, and later, the bucket holds the frame

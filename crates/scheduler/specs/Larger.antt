@@ -3,12 +3,12 @@ use Prim.Native.Nat.{ℕ, _+_, _-_, _≤_, _^_}
 use mathlib.Core.Bool.{true}
 use mathlib.Core.Path.{_≡_, refl}
 use native.Mathlib.Omega.{arith}
-use Rattle.bucket.specs.Bucket.{grains, grown, waitFor}
+use Rattle.bucket.specs.Meaning.{grains, grown, waitFor}
 use Rattle.bucket.specs.Laws.{Above, above-wait, above-taken}
 use Rattle.bucket.specs.declared.Octets.{Octets}
 use Rattle.scheduler.specs.declared.Scheduler.{Scheduler}
 use Rattle.scheduler.specs.declared.Outcome.the-variants.{Admitted}
-use Rattle.scheduler.specs.Step.{stepOf, spent, eligibleOf}
+use Rattle.scheduler.specs.Meaning.{schedulerStepOf, spent, eligibleOf}
 use Rattle.scheduler.specs.Range.{testOf, Ranged, ranged, ranged-back}
 use Rattle.scheduler.specs.Cases.{step-admitted, enough}
 
@@ -65,14 +65,14 @@ ahead-range s s′ group group′ residence arrival length ahead groups small le
 }
 
 -- so where the one admits, the other admits too, no later, and stays ahead
-pub larger-burst : (s s′ : Scheduler) (group group′ residence arrival : ℕ) (length : Octets) → Ahead s s′ → group′ ≤ group → s′ .burst .0 ≤ 1_000_000 → s′ .level ≤ grains (s′ .burst .0)
+pub larger-burst-step : (s s′ : Scheduler) (group group′ residence arrival : ℕ) (length : Octets) → Ahead s s′ → group′ ≤ group → s′ .burst .0 ≤ 1_000_000 → s′ .level ≤ grains (s′ .burst .0)
     → testOf s group residence arrival length ≡ true
     → (let at = eligibleOf s group arrival (length .0) in let at′ = eligibleOf s′ group′ arrival (length .0) in at ≤ arrival + residence
-    → (stepOf s group residence arrival length ≡ record { scheduler = spent s (length .0) at; group = at; outcome = Admitted at })
-    × (stepOf s′ group′ residence arrival length ≡ record { scheduler = spent s′ (length .0) at′; group = at′; outcome = Admitted at′ })
+    → (schedulerStepOf s group residence arrival length ≡ record { scheduler = spent s (length .0) at; group = at; outcome = Admitted at })
+    × (schedulerStepOf s′ group′ residence arrival length ≡ record { scheduler = spent s′ (length .0) at′; group = at′; outcome = Admitted at′ })
     × (at′ ≤ at)
     × Ahead (spent s (length .0) at) (spent s′ (length .0) at′))
-larger-burst s s′ group group′ residence arrival length ahead groups small level e h =
+larger-burst-step s s′ group group′ residence arrival length ahead groups small level e h =
     let k = ranged s group residence arrival length e in
     let k′ = ahead-range s s′ group group′ residence arrival length ahead groups small level k in
     let sooner = no-later s s′ group group′ residence arrival length ahead groups k k′ in (

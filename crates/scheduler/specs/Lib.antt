@@ -1,4 +1,4 @@
-pub mod Step
+pub mod Meaning
 pub mod Range
 pub mod Cases
 pub mod Worked

@@ -1,12 +1,13 @@
 -- What a range check that held tells, and what follows for the numbers of a step.
-use Prim.Native.Nat.{ℕ, _+_, _-_, _≤_, _^_}
-use mathlib.Core.Bool.{Bool, true, false}
-use mathlib.Core.Path.{_≡_, refl}
+use Prim.Native.Nat.{ℕ, _+_, _≤_, _^_}
+use mathlib.Core.Bool.{Bool, true}
+use mathlib.Core.Path.{_≡_}
 use borrow.Author.Tests.{leb-true, le-leb}
 use Rattle.bucket.specs.declared.Octets.{Octets}
 use Rattle.scheduler.specs.declared.Scheduler.{Scheduler}
-use Rattle.bucket.specs.Bucket.{grains}
-use Rattle.scheduler.specs.Step.{inRangeOf, _and_}
+use Rattle.logic.specs.Laws.{conjuncts}
+use Rattle.bucket.specs.Meaning.{grains}
+use Rattle.scheduler.specs.Meaning.{schedulerInRange}
 
 pub record InRange (rate burst level last group residence arrival length : ℕ) : Type 0 where
   pub burst-low : 1 ≤ burst
@@ -21,53 +22,34 @@ pub record InRange (rate burst level last group residence arrival length : ℕ) 
   pub residence-low : 1 ≤ residence
   pub residence-high : residence ≤ 1_000_000_000
 
-left : (a b : Bool) → (a and b) ≡ true → a ≡ true
-unfolding _and_
-left true b e = refl
-left false b e = e
-
-right : (a b : Bool) → (a and b) ≡ true → b ≡ true
-unfolding _and_
-right true b e = e
-right false b e = cc
-
-pub in-range : (rate burst level last group residence arrival length : ℕ) → inRangeOf rate burst level last group residence arrival length ≡ true
+pub in-range : (rate burst level last group residence arrival length : ℕ) → schedulerInRange rate burst level last group residence arrival length ≡ true
     → InRange rate burst level last group residence arrival length
-unfolding inRangeOf
+unfolding schedulerInRange
 in-range rate burst level last group residence arrival length e =
-    let e₀ = right _ _ e in
-    let e₁ = left _ _ e₀ in
-    let e₂ = left _ _ e₁ in
-    let e₃ = left _ _ e₂ in
-    let e₄ = left _ _ e₃ in
-    let e₅ = left _ _ e₄ in
-    let e₆ = left _ _ e₅ in
-    let e₇ = left _ _ e₆ in
-    let e₈ = left _ _ e₇ in
     record {
-      burst-low = leb-true _ _ (left _ _ e₈);
-      burst-high = leb-true _ _ (left _ _ e);
-      level-high = leb-true _ _ (right _ _ e₈);
-      length-high = leb-true _ _ (right _ _ e₇);
-      rate-low = leb-true _ _ (right _ _ e₆);
-      rate-high = leb-true _ _ (right _ _ e₅);
-      last-high = leb-true _ _ (right _ _ e₄);
-      group-high = leb-true _ _ (right _ _ e₃);
-      arrival-high = leb-true _ _ (right _ _ e₂);
-      residence-low = leb-true _ _ (right _ _ e₁);
-      residence-high = leb-true _ _ (right _ _ e₀);
+      burst-low = leb-true 1 burst (search conjuncts depth 12);
+      burst-high = leb-true burst 1_000_000 (search conjuncts depth 12);
+      level-high = leb-true level (grains burst) (search conjuncts depth 12);
+      length-high = leb-true length burst (search conjuncts depth 12);
+      rate-low = leb-true 1 rate (search conjuncts depth 12);
+      rate-high = leb-true rate 10_000_000_000 (search conjuncts depth 12);
+      last-high = leb-true last (2 ^ 62 + 1_000_000_000) (search conjuncts depth 12);
+      group-high = leb-true group (2 ^ 62 + 1_000_000_000) (search conjuncts depth 12);
+      arrival-high = leb-true arrival (2 ^ 62) (search conjuncts depth 12);
+      residence-low = leb-true 1 residence (search conjuncts depth 12);
+      residence-high = leb-true residence 1_000_000_000 (search conjuncts depth 12);
     }
 
 -- and the other way round
 pub in-range-back : (rate burst level last group residence arrival length : ℕ) → InRange rate burst level last group residence arrival length
-    → inRangeOf rate burst level last group residence arrival length ≡ true
-unfolding inRangeOf _and_
+    → schedulerInRange rate burst level last group residence arrival length ≡ true
+unfolding schedulerInRange
 in-range-back rate burst level last group residence arrival length k =
     simp (le-leb _ _ (k .burst-high), le-leb _ _ (k .burst-low), le-leb _ _ (k .level-high), le-leb _ _ (k .length-high), le-leb _ _ (k .rate-low), le-leb _ _ (k .rate-high), le-leb _ _ (k .last-high), le-leb _ _ (k .group-high), le-leb _ _ (k .arrival-high), le-leb _ _ (k .residence-low), le-leb _ _ (k .residence-high))
 
 -- the same of a step's arguments
 abbrev pub testOf : Scheduler → ℕ → ℕ → ℕ → Octets → Bool
-testOf s group residence arrival length = inRangeOf (s .rate .0) (s .burst .0) (s .level) (s .last) group residence arrival (length .0)
+testOf s group residence arrival length = schedulerInRange (s .rate .0) (s .burst .0) (s .level) (s .last) group residence arrival (length .0)
 
 abbrev pub Ranged : Scheduler → ℕ → ℕ → ℕ → Octets → Type 0
 Ranged s group residence arrival length = InRange (s .rate .0) (s .burst .0) (s .level) (s .last) group residence arrival (length .0)

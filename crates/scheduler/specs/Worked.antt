@@ -6,25 +6,25 @@ use Rattle.scheduler.specs.declared.Scheduler.{Scheduler}
 use Rattle.scheduler.specs.declared.Stepped.{Stepped}
 use Rattle.scheduler.specs.declared.Outcome.{Outcome}
 use Rattle.scheduler.specs.declared.Outcome.the-variants.{Admitted, Dropped, Refused}
-use Rattle.bucket.specs.Bucket.{grains}
-use Rattle.scheduler.specs.Step.{stepOf, inRangeOf, _and_}
+use Rattle.bucket.specs.Meaning.{grains}
+use Rattle.scheduler.specs.Meaning.{schedulerStepOf, schedulerInRange}
 
 -- a scheduler with a full bucket
 abbrev pub full : ℕ → ℕ → Scheduler
 full rate burst = record { rate = record { 0 = rate }; burst = record { 0 = burst }; level = grains burst; last = 0 }
 
 -- the outcomes of frames of `length` octets that arrive at the times of a list
-unfoldable pub runOf : Scheduler → ℕ → ℕ → ℕ → List ℕ → List Outcome
-runOf s g residence length [] = []
-runOf s g residence length (t ∷ ts) =
-    let r = stepOf s g residence t (record { 0 = length }) in
-    r .outcome ∷ runOf (r .scheduler) (r .group) residence length ts
+unfoldable pub outcomesAfter : Scheduler → ℕ → ℕ → ℕ → List ℕ → List Outcome
+outcomesAfter s g residence length [] = []
+outcomesAfter s g residence length (t ∷ ts) =
+    let r = schedulerStepOf s g residence t (record { 0 = length }) in
+    r .outcome ∷ outcomesAfter (r .scheduler) (r .group) residence length ts
 
 -- the scheduler and its group's last time after the frames of a list
 unfoldable pub lastOf : Scheduler → ℕ → ℕ → ℕ → List ℕ → Stepped
 lastOf s g residence length [] = record { scheduler = s; group = g; outcome = Dropped }
 lastOf s g residence length (t ∷ ts) =
-    let r = stepOf s g residence t (record { 0 = length }) in
+    let r = schedulerStepOf s g residence t (record { 0 = length }) in
     lastOf (r .scheduler) (r .group) residence length ts
 
 -- document 01's scheduler S: a rate of 10^9 and a burst of 1000
@@ -33,30 +33,30 @@ S = full 1_000_000_000 1000
 
 -- ★A four at 0, ★B a fifth, dropped, ★C the next at 2000, at the limit exactly
 abbrev pub CaseABC : Type 0
-CaseABC = runOf S 0 10_000 500 (0 ∷ 0 ∷ 0 ∷ 0 ∷ 0 ∷ 2000 ∷ []) ≡ Admitted 0 ∷ Admitted 0 ∷ Admitted 4000 ∷ Admitted 8000 ∷ Dropped ∷ Admitted 12_000 ∷ []
+CaseABC = outcomesAfter S 0 10_000 500 (0 ∷ 0 ∷ 0 ∷ 0 ∷ 0 ∷ 2000 ∷ []) ≡ Admitted 0 ∷ Admitted 0 ∷ Admitted 4000 ∷ Admitted 8000 ∷ Dropped ∷ Admitted 12_000 ∷ []
 
 -- ★D a wait that is no whole number of ns is rounded up once, and the rest stays in the bucket
 abbrev pub CaseD : Type 0
-CaseD = runOf (full 3_000_000_000 1000) 0 10_000 500 (0 ∷ 0 ∷ 0 ∷ 0 ∷ 0 ∷ []) ≡ Admitted 0 ∷ Admitted 0 ∷ Admitted 1334 ∷ Admitted 2667 ∷ Admitted 4000 ∷ []
+CaseD = outcomesAfter (full 3_000_000_000 1000) 0 10_000 500 (0 ∷ 0 ∷ 0 ∷ 0 ∷ 0 ∷ []) ≡ Admitted 0 ∷ Admitted 0 ∷ Admitted 1334 ∷ Admitted 2667 ∷ Admitted 4000 ∷ []
 
 -- ★E a full scheduler of the same group, after A's third
 abbrev pub CaseE : Type 0
-CaseE = runOf S (lastOf S 0 10_000 500 (0 ∷ 0 ∷ 0 ∷ []) .group) 10_000 500 (0 ∷ []) ≡ Admitted 4000 ∷ []
+CaseE = outcomesAfter S (lastOf S 0 10_000 500 (0 ∷ 0 ∷ 0 ∷ []) .group) 10_000 500 (0 ∷ []) ≡ Admitted 4000 ∷ []
 
 pub schedulers-worked : CaseABC × (CaseD × CaseE)
-unfolding runOf lastOf stepOf inRangeOf _and_
+unfolding outcomesAfter lastOf schedulerStepOf schedulerInRange
 schedulers-worked = (refl, (refl, refl))
 
 -- a rate of 0 is out of range
-rate-zero : runOf (full 0 1000) 0 10_000 500 (0 ∷ []) ≡ Refused ∷ []
-unfolding runOf stepOf inRangeOf _and_
+rate-zero : outcomesAfter (full 0 1000) 0 10_000 500 (0 ∷ []) ≡ Refused ∷ []
+unfolding outcomesAfter schedulerStepOf schedulerInRange
 rate-zero = refl
 
 -- `Larger.antt`'s law holds of a step in which the smaller burst admits, and not over a run in which it drops: the larger one admits the second frame too, and then the third is eligible later
-pub small-drops : runOf S 0 6000 1000 (0 ∷ 0 ∷ 6000 ∷ []) ≡ Admitted 0 ∷ Dropped ∷ Admitted 8000 ∷ []
-unfolding runOf stepOf inRangeOf _and_
+pub small-drops : outcomesAfter S 0 6000 1000 (0 ∷ 0 ∷ 6000 ∷ []) ≡ Admitted 0 ∷ Dropped ∷ Admitted 8000 ∷ []
+unfolding outcomesAfter schedulerStepOf schedulerInRange
 small-drops = refl
 
-pub large-admits : runOf (full 1_000_000_000 1500) 0 6000 1000 (0 ∷ 0 ∷ 6000 ∷ []) ≡ Admitted 0 ∷ Admitted 4000 ∷ Admitted 12_000 ∷ []
-unfolding runOf stepOf inRangeOf _and_
+pub large-admits : outcomesAfter (full 1_000_000_000 1500) 0 6000 1000 (0 ∷ 0 ∷ 6000 ∷ []) ≡ Admitted 0 ∷ Admitted 4000 ∷ Admitted 12_000 ∷ []
+unfolding outcomesAfter schedulerStepOf schedulerInRange
 large-admits = refl

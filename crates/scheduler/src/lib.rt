@@ -3,7 +3,7 @@ use bucket::Octets;
 use bucket::Rate;
 ghost use mathlib.Core.Path.{_≡_};
 ghost use Prim.Native.Nat.{ℕ, _+_, _≤_, max};
-ghost use Rattle.scheduler.specs.Step.{stepOf, inRangeOf};
+ghost use Rattle.scheduler.specs.Meaning.{schedulerStepOf, schedulerInRange};
 
 pub struct Scheduler {
     // CIR.
@@ -36,7 +36,7 @@ pub struct Stepped {
 // One frame of `length` octets, overhead included, that arrives at `arrival`; `group` is the group's last time, `residence` its limit.
 // Ruled out: a drop that moves the group's time; an eligibility time rounded up again and again, so that case D ends at 2668.
 pub fn step(s: Scheduler, group: u64, residence: u64, arrival: u64, length: Octets) -> Stepped
-    ensures { λ r. ⌜ r ≡ stepOf s group residence arrival length ⌝ }
+    ensures { λ r. ⌜ r ≡ schedulerStepOf s group residence arrival length ⌝ }
 {
     let r = s.rate;
     let b = s.burst;
@@ -84,7 +84,7 @@ pub fn step_in_place(
     arrival: u64,
     length: Octets,
 ) -> Outcome
-    ensures { λ r. ⌜ (now (s .exit) ≡ stepOf (now (s .entry)) group residence arrival length .scheduler) × (r ≡ stepOf (now (s .entry)) group residence arrival length .outcome) ⌝ }
+    ensures { λ r. ⌜ (now (s .exit) ≡ schedulerStepOf (now (s .entry)) group residence arrival length .scheduler) × (r ≡ schedulerStepOf (now (s .entry)) group residence arrival length .outcome) ⌝ }
 {
     let done = step(*s, group, residence, arrival, length);
     *s = done.scheduler;
@@ -94,7 +94,7 @@ pub fn step_in_place(
 // The scheduler after a frame, for a caller that has it by value: it is lent to `step_in_place`.
 // Ruled out: the scheduler as it was where a frame is admitted; a scheduler that a drop has changed.
 pub fn offered(s: Scheduler, group: u64, residence: u64, arrival: u64, length: Octets) -> Scheduler
-    ensures { λ r. ⌜ r ≡ stepOf s group residence arrival length .scheduler ⌝ }
+    ensures { λ r. ⌜ r ≡ schedulerStepOf s group residence arrival length .scheduler ⌝ }
 {
     let mut kept = s;
     step_in_place(&mut kept, group, residence, arrival, length);
@@ -117,7 +117,7 @@ fn in_range(
     arrival: u64,
     length: u64,
 ) -> bool
-    ensures { λ r. ⌜ r ≡ inRangeOf rate burst level last group residence arrival length ⌝ }
+    ensures { λ r. ⌜ r ≡ schedulerInRange rate burst level last group residence arrival length ⌝ }
 {
     if burst <= 1_000_000 {
         (1 <= burst)

@@ -1,21 +1,22 @@
 -- The cases of the definitions in Setup, each from the facts that a function has in hand.
 use Prim.Native.Nat.{ℕ, _+_, _≤_, _<_}
-use mathlib.Core.Bool.{Bool, true, false, _||_, cond}
+use mathlib.Core.Bool.{Bool, true, false, _||_}
 use mathlib.Core.List.{List}
 use mathlib.Core.Path.{_≡_}
 use native.Mathlib.Numerals.{add-one}
-use borrow.Author.Tests.{lt-ltb, le-ltb, ne-eqb}
+use borrow.Author.Tests.{lt-ltb, le-ltb, ne-eqb, eqb-true}
 use lib.Dec.{eqb}
+use Rattle.sizes.specs.Meaning.{entryCount}
+use Rattle.logic.specs.Laws.{if-by}
 use Rattle.record.specs.declared.GateEntryRecord.{GateEntryRecord}
 use Rattle.record.specs.declared.ClearRecord.{ClearRecord}
 use Rattle.record.specs.declared.Refusal.{Refusal}
 use Rattle.record.specs.declared.Refusal.the-variants.{NinthEntry, NotSetUp}
-use Rattle.bank.specs.Rows.{Rows}
-use Rattle.bank.specs.Views.{entries, withEntries}
+use Rattle.bank.specs.Meaning.{Rows, entries, withEntries}
 use Rattle.filter.specs.declared.Filter.{Filter}
 use Rattle.verdict.specs.declared.Verdict.the-variants.{Refused, Taken}
-use Rattle.verdict.specs.Told.{Told, told}
-use Rattle.setup.specs.Setup.{refusedIf, someOf, listed, keptOf, placeOf, entryOf, oversizeOf, invalidReceiveOf, octetsOf, redOf, clearOf}
+use Rattle.verdict.specs.Meaning.{Told, told}
+use Rattle.setup.specs.Meaning.{refusedIf, someOf, listed, entryKept, entryPlace, addEntryOf, clearOversizeOf, clearInvalidReceiveOf, clearOctetsOf, clearRedOf, clearOf}
 
 module _ (b : Bool) (why : Refusal) (s : Rows) (t : Told) where
   pub if-refused : b ≡ true → refusedIf b why s t ≡ told s (Refused why)
@@ -27,10 +28,10 @@ module _ (b : Bool) (why : Refusal) (s : Rows) (t : Told) where
   if-goes-on e = rw e
 
 -- what holds of the refusal, and of what follows, holds of both
-pub if-by : (P : Told → Type 0) (b : Bool) (why : Refusal) (s : Rows) (t : Told) → P (told s (Refused why)) → P t → P (refusedIf b why s t)
+pub refused-by : (P : Told → Type 0) (b : Bool) (why : Refusal) (s : Rows) (t : Told) → P (told s (Refused why)) → P t → P (refusedIf b why s t)
 unfolding refusedIf
-if-by P true why s t h k = h
-if-by P false why s t h k = k
+refused-by P true why s t h k = h
+refused-by P false why s t h k = k
 
 module _ (test : ℕ → Bool) (found : Bool) (n : ℕ) (e : found ≡ someOf test n) where
   pub some-more : (t : Bool) → t ≡ test n → (found || t) ≡ someOf test (n + 1)
@@ -38,12 +39,12 @@ module _ (test : ℕ → Bool) (found : Bool) (n : ℕ) (e : found ≡ someOf te
   some-more t e′ = rw (add-one, e, e′)
 
 module _ (s : Rows) (lists input : List ℕ) (r : GateEntryRecord) (n : ℕ) (e : n ≡ entries s (r .gate)) where
-  pub entry-taken : n < 8 → entryOf s lists input r ≡ listed (withEntries s (r .gate) (n + 1)) (keptOf lists (placeOf (r .gate) n) input) Taken
-  unfolding entryOf
+  pub entry-taken : n < entryCount → addEntryOf s lists input r ≡ listed (withEntries s (r .gate) (n + 1)) (entryKept lists (entryPlace (r .gate) n) input) Taken
+  unfolding addEntryOf
   entry-taken h = rw (← e, lt-ltb _ _ h)
 
-  pub entry-ninth : 8 ≤ n → entryOf s lists input r ≡ listed s lists (Refused NinthEntry)
-  unfolding entryOf
+  pub entry-ninth : entryCount ≤ n → addEntryOf s lists input r ≡ listed s lists (Refused NinthEntry)
+  unfolding addEntryOf
   entry-ninth h = rw (← e, le-ltb _ _ h)
 
 -- the flag is none of 1 to 4
@@ -51,19 +52,19 @@ abbrev pub Others : ℕ → Type 0
 Others n = ((((Unit {0} × (n ≡ 1 → ⊥)) × (n ≡ 2 → ⊥)) × (n ≡ 3 → ⊥)) × (n ≡ 4 → ⊥))
 
 module _ (s : Rows) (r : ClearRecord) (row : Filter) where
-  pub clear-oversize : r .flag ≡ 1 → clearOf s r row ≡ oversizeOf s (r .id) row
+  pub clear-oversize : r .flag ≡ 1 → clearOf s r row ≡ clearOversizeOf s (r .id) row
   unfolding clearOf
   clear-oversize e = rw e
 
-  pub clear-invalid-receive : r .flag ≡ 2 → clearOf s r row ≡ invalidReceiveOf s (r .id)
+  pub clear-invalid-receive : r .flag ≡ 2 → clearOf s r row ≡ clearInvalidReceiveOf s (r .id)
   unfolding clearOf
   clear-invalid-receive e = rw e
 
-  pub clear-octets : r .flag ≡ 3 → clearOf s r row ≡ octetsOf s (r .id)
+  pub clear-octets : r .flag ≡ 3 → clearOf s r row ≡ clearOctetsOf s (r .id)
   unfolding clearOf
   clear-octets e = rw e
 
-  pub clear-red : r .flag ≡ 4 → clearOf s r row ≡ redOf s (r .id)
+  pub clear-red : r .flag ≡ 4 → clearOf s r row ≡ clearRedOf s (r .id)
   unfolding clearOf
   clear-red e = rw e
 
@@ -71,13 +72,12 @@ module _ (s : Rows) (r : ClearRecord) (row : Filter) where
   unfolding clearOf
   clear-none o = rw (ne-eqb (r .flag) 1 (o .0 .0 .0 .1), ne-eqb (r .flag) 2 (o .0 .0 .1), ne-eqb (r .flag) 3 (o .0 .1), ne-eqb (r .flag) 4 (o .1))
 
-cond-by : (P : Told → Type 0) (b : Bool) (t t′ : Told) → P t → P t′ → P (cond b t t′)
-cond-by P true t t′ h h′ = h
-cond-by P false t t′ h h′ = h′
-
 -- what holds of each flag's clear, and where there is no such flag, holds of the clear
-pub clear-by : (P : Told → Type 0) (s : Rows) (r : ClearRecord) (row : Filter) → P (oversizeOf s (r .id) row) → P (invalidReceiveOf s (r .id)) → P (octetsOf s (r .id)) → P (redOf s (r .id))
-    → P (told s (Refused NotSetUp)) → P (clearOf s r row)
+pub clear-by : (P : Told → Type 0) (s : Rows) (r : ClearRecord) (row : Filter) → (r .flag ≡ 1 → P (clearOversizeOf s (r .id) row)) → (r .flag ≡ 2 → P (clearInvalidReceiveOf s (r .id))) → (r .flag ≡ 3 → P (clearOctetsOf s (r .id)))
+    → (r .flag ≡ 4 → P (clearRedOf s (r .id))) → P (told s (Refused NotSetUp)) → P (clearOf s r row)
 unfolding clearOf
-clear-by P s r row oversize invalidReceive octets red none =
-    cond-by P (eqb (r .flag) 1) _ _ oversize (cond-by P (eqb (r .flag) 2) _ _ invalidReceive (cond-by P (eqb (r .flag) 3) _ _ octets (cond-by P (eqb (r .flag) 4) _ _ red none)))
+clear-by P s r row f₁ f₂ f₃ f₄ none =
+    if-by P (eqb (r .flag) 1) _ _ (λ e. f₁ (eqb-true _ _ e))
+    (λ _. if-by P (eqb (r .flag) 2) _ _ (λ e. f₂ (eqb-true _ _ e))
+    (λ _. if-by P (eqb (r .flag) 3) _ _ (λ e. f₃ (eqb-true _ _ e))
+    (λ _. if-by P (eqb (r .flag) 4) _ _ (λ e. f₄ (eqb-true _ _ e)) (λ _. none))))

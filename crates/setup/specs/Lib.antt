@@ -1,3 +1,3 @@
-pub mod Setup
+pub mod Meaning
 pub mod Cases
 pub mod Laws

@@ -1,13 +1,13 @@
 // Taking a record that is no filter and no arrival: what it does to the bank of words, and to the octets of the gate lists (01, Records,
-// kinds 1, 3 to 8 and 10). The meaning of each function is in specs/Setup.antt; a refusal leaves everything as it was.
+// kinds 1, 3 to 8 and 10). The meaning of each function is in specs/Meaning.antt; a refusal leaves everything as it was.
 use bank::Group;
 use bank::Lists;
 use bank::Port;
-use bank::Stage;
 use bank::Words;
 use bucket::Octets;
 use bucket::Rate;
 use filter::Filter;
+use filter::Found;
 use meter::Meter;
 use record::ClearRecord;
 use record::GateEntryRecord;
@@ -22,37 +22,31 @@ use scheduler::Scheduler;
 use verdict::Verdict;
 ghost use mathlib.Core.Path.{_≡_};
 ghost use Prim.Native.Nat.{_+_, _≤_, min, max};
-ghost use Rattle.bucket.specs.Bucket.{grains};
-ghost use Rattle.bank.specs.Rows.{rowsOf};
-ghost use Rattle.verdict.specs.Told.{told};
-ghost use Rattle.setup.specs.Setup.{portOf, gateOf, listed, octet, keptOf, entryOf, meterOf, groupOf, freshOf, schedulerOf, strayOf, grouplessOf, someOf, startOf, oversizeOf, invalidReceiveOf, octetsOf, redOf, clearOf};
+ghost use Rattle.sizes.specs.Meaning.{gateCount, schedulerCount, entryOctets, listsOctets};
+ghost use Rattle.bucket.specs.Meaning.{grains};
+ghost use Rattle.bank.specs.Meaning.{rowsOf};
+ghost use Rattle.filter.specs.Meaning.{isFound};
+ghost use Rattle.verdict.specs.Meaning.{told};
+ghost use Rattle.setup.specs.Meaning.{setPortOf, setGateOf, listed, octetAt, entryKept, addEntryOf, setMeterOf, setGroupOf, freshSchedulerOf, setSchedulerOf, strayOf, grouplessOf, someOf, startOf, clearOversizeOf, clearInvalidReceiveOf, clearOctetsOf, clearRedOf, clearOf};
 
 // Kind 1.
 // Ruled out: a second record for a port that overwrites the first; the largest overhead replaced by a smaller one.
 pub fn set_port(bank: &mut Words, r: PortRecord) -> Verdict
-    ensures { λ v. ⌜ told (rowsOf (now (bank .exit))) v ≡ portOf (rowsOf (now (bank .entry))) r ⌝ }
+    ensures { λ v. ⌜ told (rowsOf (now (bank .exit))) v ≡ setPortOf (rowsOf (now (bank .entry))) r ⌝ }
 {
     let i = r.port as usize;
-    let overhead = r.overhead as u64;
     let old = bank::port_at(bank, i);
     if old.set {
         return Verdict::Refused(Refusal::SetUpAlready);
     }
-    let stage = bank::stage_at(bank);
-    bank::put_stage(
-        bank,
-        Stage {
-            classes: stage.classes,
-            clock: stage.clock,
-            overhead: larger(stage.overhead, overhead),
-        },
-    );
+    let component = bank::component_at(bank);
+    bank::put_overhead(bank, larger(component.overhead, r.overhead as u64));
     bank::put_port(
         bank,
         i,
         Port {
             set: true,
-            overhead: overhead,
+            overhead: r.overhead,
             discarded: old.discarded,
         },
     );
@@ -62,7 +56,7 @@ pub fn set_port(bank: &mut Words, r: PortRecord) -> Verdict
 // Kind 3.
 // Ruled out: a second record for a gate taken; a closed gate set up open because octets block is set.
 pub fn set_gate(bank: &mut Words, r: GateRecord) -> Verdict
-    ensures { λ v. ⌜ told (rowsOf (now (bank .exit))) v ≡ gateOf (rowsOf (now (bank .entry))) r ⌝ }
+    ensures { λ v. ⌜ told (rowsOf (now (bank .exit))) v ≡ setGateOf (rowsOf (now (bank .entry))) r ⌝ }
 {
     let i = r.id as usize;
     if bank::gate_set(bank, i) {
@@ -83,12 +77,16 @@ pub fn set_gate(bank: &mut Words, r: GateRecord) -> Verdict
 // Kind 4: `r` is the record that `input` begins with, whose body is kept in the gate's list.
 // Ruled out: a ninth entry taken; an entry kept in the list of another gate.
 pub fn add_entry(bank: &mut Words, lists: &mut Lists, input: &[u8], r: GateEntryRecord) -> Verdict
-    ensures { λ v. ⌜ listed (rowsOf (now (bank .exit))) (now (lists .exit)) v ≡ entryOf (rowsOf (now (bank .entry))) (now (lists .entry)) (now (input .entry)) r ⌝ }
+    ensures { λ v. ⌜ listed (rowsOf (now (bank .exit))) (now (lists .exit)) v ≡ addEntryOf (rowsOf (now (bank .entry))) (now (lists .entry)) (now (input .entry)) r ⌝ }
 {
     let i = r.gate as usize;
     let n = bank::entries_at(bank, i);
-    if n < 8 {
-        keep(lists, i % 16 * 88 + n * 11, input);
+    if n < sizes::ENTRIES {
+        keep(
+            lists,
+            i % sizes::GATES * sizes::LIST + n * sizes::ENTRY,
+            input,
+        );
         bank::put_entries(bank, i, n + 1);
         Verdict::Taken
     } else {
@@ -99,7 +97,7 @@ pub fn add_entry(bank: &mut Words, lists: &mut Lists, input: &[u8], r: GateEntry
 // Kind 5.
 // Ruled out: a second record that fills the buckets again; drop on yellow taken for the red block.
 pub fn set_meter(bank: &mut Words, r: MeterRecord) -> Verdict
-    ensures { λ v. ⌜ told (rowsOf (now (bank .exit))) v ≡ meterOf (rowsOf (now (bank .entry))) r ⌝ }
+    ensures { λ v. ⌜ told (rowsOf (now (bank .exit))) v ≡ setMeterOf (rowsOf (now (bank .entry))) r ⌝ }
 {
     let i = r.id as usize;
     if bank::meter_set(bank, i) {
@@ -126,7 +124,7 @@ pub fn set_meter(bank: &mut Words, r: MeterRecord) -> Verdict
 // Kind 6.
 // Ruled out: a second record for a group taken; a group whose last time is its residence.
 pub fn set_group(bank: &mut Words, r: GroupRecord) -> Verdict
-    ensures { λ v. ⌜ told (rowsOf (now (bank .exit))) v ≡ groupOf (rowsOf (now (bank .entry))) r ⌝ }
+    ensures { λ v. ⌜ told (rowsOf (now (bank .exit))) v ≡ setGroupOf (rowsOf (now (bank .entry))) r ⌝ }
 {
     let i = r.id as usize;
     let old = bank::group_at(bank, i);
@@ -148,7 +146,7 @@ pub fn set_group(bank: &mut Words, r: GroupRecord) -> Verdict
 // Kind 7.
 // Ruled out: a bucket that starts empty; a scheduler put into the group of its own number.
 pub fn set_scheduler(bank: &mut Words, r: SchedulerRecord) -> Verdict
-    ensures { λ v. ⌜ told (rowsOf (now (bank .exit))) v ≡ schedulerOf (rowsOf (now (bank .entry))) r ⌝ }
+    ensures { λ v. ⌜ told (rowsOf (now (bank .exit))) v ≡ setSchedulerOf (rowsOf (now (bank .entry))) r ⌝ }
 {
     let i = r.id as usize;
     if bank::scheduler_set(bank, i) {
@@ -160,27 +158,18 @@ pub fn set_scheduler(bank: &mut Words, r: SchedulerRecord) -> Verdict
     Verdict::Taken
 }
 
-// Kind 8. `miss` is the place of the first filter that names what is missing, `hit` that of the first that is too large for its
-// scheduler; each is 64 where there is none.
+// Kind 8. `missing` is the first filter that names what is missing, `exceeding` the first that exceeds its scheduler's burst.
 // Ruled out: 8 given where something is missing, too; a refused start after which the bridge has started.
-pub fn start(bank: &mut Words, r: StartRecord, miss: usize, hit: usize) -> Verdict
-    ensures { λ v. ⌜ told (rowsOf (now (bank .exit))) v ≡ startOf (rowsOf (now (bank .entry))) r miss hit ⌝ }
+pub fn start(bank: &mut Words, r: StartRecord, missing: Found, exceeding: Found) -> Verdict
+    ensures { λ v. ⌜ told (rowsOf (now (bank .exit))) v ≡ startOf (rowsOf (now (bank .entry))) r missing exceeding ⌝ }
 {
-    if (miss < 64) | some_stray(bank) | some_groupless(bank) {
+    if is_found(missing) | some_stray(bank) | some_groupless(bank) {
         return Verdict::Refused(Refusal::Missing);
     }
-    if hit < 64 {
+    if is_found(exceeding) {
         return Verdict::Refused(Refusal::BurstTooSmall);
     }
-    let stage = bank::stage_at(bank);
-    bank::put_stage(
-        bank,
-        Stage {
-            classes: r.classes as u64,
-            clock: stage.clock,
-            overhead: stage.overhead,
-        },
-    );
+    bank::put_classes(bank, r.classes as u64);
     Verdict::Taken
 }
 
@@ -201,19 +190,17 @@ pub fn clear(bank: &mut Words, r: ClearRecord, row: Filter) -> Verdict
 }
 
 fn clear_oversize(bank: &mut Words, i: usize, row: Filter) -> Verdict
-    ensures { λ v. ⌜ told (rowsOf (now (bank .exit))) v ≡ oversizeOf (rowsOf (now (bank .entry))) i row ⌝ }
+    ensures { λ v. ⌜ told (rowsOf (now (bank .exit))) v ≡ clearOversizeOf (rowsOf (now (bank .entry))) i row ⌝ }
 {
     if !filter::counts(row, bank) {
         return Verdict::Refused(Refusal::NotSetUp);
     }
-    let mut c = bank::counters_at(bank, i);
-    c.oversize = false;
-    bank::put_counters(bank, i, c);
+    bank::put_oversize(bank, i, false);
     Verdict::Taken
 }
 
 fn clear_invalid_receive(bank: &mut Words, i: usize) -> Verdict
-    ensures { λ v. ⌜ told (rowsOf (now (bank .exit))) v ≡ invalidReceiveOf (rowsOf (now (bank .entry))) i ⌝ }
+    ensures { λ v. ⌜ told (rowsOf (now (bank .exit))) v ≡ clearInvalidReceiveOf (rowsOf (now (bank .entry))) i ⌝ }
 {
     if !bank::gate_set(bank, i) {
         return Verdict::Refused(Refusal::NotSetUp);
@@ -225,7 +212,7 @@ fn clear_invalid_receive(bank: &mut Words, i: usize) -> Verdict
 }
 
 fn clear_octets(bank: &mut Words, i: usize) -> Verdict
-    ensures { λ v. ⌜ told (rowsOf (now (bank .exit))) v ≡ octetsOf (rowsOf (now (bank .entry))) i ⌝ }
+    ensures { λ v. ⌜ told (rowsOf (now (bank .exit))) v ≡ clearOctetsOf (rowsOf (now (bank .entry))) i ⌝ }
 {
     if !bank::gate_set(bank, i) {
         return Verdict::Refused(Refusal::NotSetUp);
@@ -237,7 +224,7 @@ fn clear_octets(bank: &mut Words, i: usize) -> Verdict
 }
 
 fn clear_red(bank: &mut Words, i: usize) -> Verdict
-    ensures { λ v. ⌜ told (rowsOf (now (bank .exit))) v ≡ redOf (rowsOf (now (bank .entry))) i ⌝ }
+    ensures { λ v. ⌜ told (rowsOf (now (bank .exit))) v ≡ clearRedOf (rowsOf (now (bank .entry))) i ⌝ }
 {
     if !bank::meter_set(bank, i) {
         return Verdict::Refused(Refusal::NotSetUp);
@@ -248,13 +235,22 @@ fn clear_red(bank: &mut Words, i: usize) -> Verdict
     Verdict::Taken
 }
 
+fn is_found(found: Found) -> bool
+    ensures { λ r. ⌜ r ≡ isFound found ⌝ }
+{
+    match found {
+        Found::At(_, _) => true,
+        Found::Nothing => false,
+    }
+}
+
 // Whether the gate of some entry is missing.
 fn some_stray(bank: &Words) -> bool
-    ensures { λ r. ⌜ r ≡ someOf (strayOf (rowsOf (now (bank .entry)))) 16 ⌝ }
+    ensures { λ r. ⌜ r ≡ someOf (strayOf (rowsOf (now (bank .entry)))) gateCount ⌝ }
 {
     let mut found = false;
     let mut i: usize = 0;
-    while i < 16 {
+    while i < sizes::GATES {
         found = found | stray(bank, i);
         i += 1;
     }
@@ -269,11 +265,11 @@ fn stray(bank: &Words, i: usize) -> bool
 
 // Whether the group of some scheduler is missing.
 fn some_groupless(bank: &Words) -> bool
-    ensures { λ r. ⌜ r ≡ someOf (grouplessOf (rowsOf (now (bank .entry)))) 32 ⌝ }
+    ensures { λ r. ⌜ r ≡ someOf (grouplessOf (rowsOf (now (bank .entry)))) schedulerCount ⌝ }
 {
     let mut found = false;
     let mut i: usize = 0;
-    while i < 32 {
+    while i < sizes::SCHEDULERS {
         found = found | groupless(bank, i);
         i += 1;
     }
@@ -289,8 +285,8 @@ fn groupless(bank: &Words, i: usize) -> bool
 
 // The body of the record that `input` begins with, kept at `at`.
 fn keep(lists: &mut Lists, at: usize, input: &[u8])
-    requires { ⌜ at + 11 ≤ 1408 ⌝ }
-    ensures { λ _. ⌜ now (lists .exit) ≡ keptOf (now (lists .entry)) at (now (input .entry)) ⌝ }
+    requires { ⌜ at + entryOctets ≤ listsOctets ⌝ }
+    ensures { λ _. ⌜ now (lists .exit) ≡ entryKept (now (lists .entry)) at (now (input .entry)) ⌝ }
 {
     known(lists);
     lists[at + 0] = octet(input, 1);
@@ -310,14 +306,14 @@ fn keep(lists: &mut Lists, at: usize, input: &[u8])
 fn known(_octets: &[u8]) {}
 
 fn octet(input: &[u8], k: usize) -> u8
-    ensures { λ r. ⌜ r ≡ octet (now (input .entry)) k ⌝ }
+    ensures { λ r. ⌜ r ≡ octetAt (now (input .entry)) k ⌝ }
 {
     if k < input.len() { input[k] } else { 0 }
 }
 
 // A scheduler whose bucket is full.
 fn fresh(rate: Rate, burst: Octets) -> Scheduler
-    ensures { λ r. ⌜ r ≡ freshOf rate burst ⌝ }
+    ensures { λ r. ⌜ r ≡ freshSchedulerOf rate burst ⌝ }
 {
     Scheduler {
         rate,

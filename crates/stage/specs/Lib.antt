@@ -1,3 +1,3 @@
-pub mod Take
+pub mod Meaning
 pub mod Plan
 pub mod Agree

@@ -4,7 +4,10 @@ use bank::Lists;
 use bank::Words;
 use filter::Asks;
 use filter::Filter;
+use filter::Found;
+use filter::Key;
 use filter::Question;
+use record::ArrivalRecord;
 use record::FilterRecord;
 use record::Reading;
 use record::Record;
@@ -12,9 +15,9 @@ use record::Refusal;
 use verdict::Answer;
 use verdict::Verdict;
 ghost use mathlib.Core.Path.{_≡_};
-ghost use Rattle.bank.specs.Rows.{rowsOf};
-ghost use Rattle.stage.specs.Take.{bridge, took, answered, filterOf, takeOf};
-ghost use Rattle.stage.specs.Plan.{planOf, planBy, firstOf, secondOf, at, all, settled, kept, placedOf, takenBy, decidedOf};
+ghost use Rattle.bank.specs.Meaning.{rowsOf};
+ghost use Rattle.stage.specs.Meaning.{bridge, took, answered, filterOf, noKey, keyOf, takeOf};
+ghost use Rattle.stage.specs.Plan.{planOf, planBy, firstAsked, secondAsked, noRowAsked, oneRowAsked, allRowsAsked, rowIn, settled, kept, placedOf, takenBy, decidedOf};
 
 // What a call is to do: the record as read, and the two searches of the filter table that it needs.
 pub struct Plan {
@@ -23,7 +26,7 @@ pub struct Plan {
     pub second: Question,
 }
 
-// What a call gives: the row to store and its place, 64 for none, and the answer.
+// What a call gives: the row to store and its place, which is past the table's end where there is none, and the answer.
 pub struct Done {
     pub at: usize,
     pub row: Filter,
@@ -35,7 +38,7 @@ pub struct Done {
 pub fn take(table: &mut [Filter], bank: &mut Words, lists: &mut Lists, input: &[u8]) -> Answer
     ensures { λ r. ⌜ took (now (table .exit)) (rowsOf (now (bank .exit))) (now (lists .exit)) r ≡ takeOf (bridge (now (table .entry)) (rowsOf (now (bank .entry))) (now (lists .entry))) (now (input .entry)) ⌝ }
 {
-    if table.len() != 64 {
+    if table.len() != sizes::FILTERS {
         return wrong_length();
     }
     let plan = planned(bank, input);
@@ -43,14 +46,13 @@ pub fn take(table: &mut [Filter], bank: &mut Words, lists: &mut Lists, input: &[
     let second = ask_second(plan);
     let miss = filter::search(table, bank, first);
     let hit = filter::search(table, bank, second);
-    let row = filter::row_at(table, hit);
-    let done = decide(bank, lists, input, plan, miss, hit, row);
+    let done = decide(bank, lists, input, plan, miss, hit);
     let next = done.row;
     filter::put_row(table, done.at, next);
     done.answer
 }
 
-// The table has not 64 rows.
+// The table has not as many places as there are filters.
 fn wrong_length() -> Answer
     ensures { λ a. ⌜ a ≡ answered 0 (Verdict.Refused Refusal.TableLength) ⌝ }
 {
@@ -76,8 +78,8 @@ fn ask_second(plan: Plan) -> Question
 fn planned(bank: &Words, input: &[u8]) -> Plan
     ensures { λ r. ⌜ r ≡ planOf (rowsOf (now (bank .entry))) (now (input .entry)) ⌝ }
 {
-    let stage = bank::stage_at(bank);
-    asked(record::read(input, stage.classes != 0))
+    let component = bank::component_at(bank);
+    asked(record::read(input, component.classes != 0))
 }
 
 fn asked(reading: Reading) -> Plan
@@ -86,8 +88,8 @@ fn asked(reading: Reading) -> Plan
     match reading {
         Reading::Refused(_) => Plan {
             reading,
-            first: at(64),
-            second: at(64),
+            first: none(),
+            second: none(),
         },
         Reading::Taken(taken, _) => Plan {
             reading,
@@ -99,69 +101,97 @@ fn asked(reading: Reading) -> Plan
 
 // Start asks for a filter that names what is missing.
 fn first(taken: Record) -> Question
-    ensures { λ r. ⌜ r ≡ firstOf taken ⌝ }
+    ensures { λ r. ⌜ r ≡ firstAsked taken ⌝ }
 {
     match taken {
-        Record::Start(_) => all(Asks::Missing, 0, 0),
-        _ => at(64),
+        Record::Start(_) => all(Asks::Missing, no_key()),
+        _ => none(),
     }
 }
 
-// Start asks for a filter that is too large for its scheduler, an arrival for the filter that fits it; a filter's record and a clear
+// Start asks for a filter that exceeds its scheduler's burst, an arrival for the filter that fits it; a filter's record and a clear
 // look at one place.
 fn second(taken: Record) -> Question
-    ensures { λ r. ⌜ r ≡ secondOf taken ⌝ }
+    ensures { λ r. ⌜ r ≡ secondAsked taken ⌝ }
 {
     match taken {
-        Record::Filter(r) => at(r.id as usize),
-        Record::Start(_) => all(Asks::TooSmall, 0, 0),
-        Record::Arrival(a) => all(Asks::Fits, a.handle, a.priority),
-        Record::Clear(r) => at(r.id as usize),
-        _ => at(64),
+        Record::Filter(r) => at(r.id),
+        Record::Start(_) => all(Asks::ExceedsBurst, no_key()),
+        Record::Arrival(a) => all(Asks::Fits, key(a)),
+        Record::Clear(r) => at(r.id),
+        _ => none(),
     }
 }
 
-// No row is asked, and the answer is `place`.
-fn at(place: usize) -> Question
-    ensures { λ r. ⌜ r ≡ at place ⌝ }
+// No row is asked.
+fn none() -> Question
+    ensures { λ r. ⌜ r ≡ noRowAsked ⌝ }
 {
     Question {
+        from: 0,
+        to: 0,
+        asks: Asks::Any,
+        key: no_key(),
+    }
+}
+
+// The row of filter `id`, whatever it is.
+fn at(id: u8) -> Question
+    ensures { λ r. ⌜ r ≡ oneRowAsked id ⌝ }
+{
+    let place = id as usize;
+    Question {
         from: place,
-        to: place,
-        asks: Asks::Fits,
+        to: place + 1,
+        asks: Asks::Any,
+        key: no_key(),
+    }
+}
+
+fn all(asks: Asks, key: Key) -> Question
+    ensures { λ r. ⌜ r ≡ allRowsAsked asks key ⌝ }
+{
+    Question {
+        from: 0,
+        to: sizes::FILTERS,
+        asks,
+        key,
+    }
+}
+
+fn key(a: ArrivalRecord) -> Key
+    ensures { λ r. ⌜ r ≡ keyOf a ⌝ }
+{
+    Key {
+        handle: a.handle,
+        priority: a.priority,
+    }
+}
+
+fn no_key() -> Key
+    ensures { λ r. ⌜ r ≡ noKey ⌝ }
+{
+    Key {
         handle: 0,
         priority: 0,
     }
 }
 
-fn all(asks: Asks, handle: u32, priority: u8) -> Question
-    ensures { λ r. ⌜ r ≡ all asks handle priority ⌝ }
-{
-    Question {
-        from: 0,
-        to: 64,
-        asks,
-        handle,
-        priority,
-    }
-}
-
-// All that a call does but for the table: `miss` and `hit` are what the two searches gave, `row` the row at `hit`.
+// All that a call does but for the table: `miss` and `hit` are what the two searches found.
 fn decide(
     bank: &mut Words,
     lists: &mut Lists,
     input: &[u8],
     plan: Plan,
-    miss: usize,
-    hit: usize,
-    row: Filter,
+    miss: Found,
+    hit: Found,
 ) -> Done
-    ensures { λ r. ⌜ settled (rowsOf (now (bank .exit))) (now (lists .exit)) r ≡ decidedOf (rowsOf (now (bank .entry))) (now (lists .entry)) (now (input .entry)) (plan .reading) miss hit row ⌝ }
+    ensures { λ r. ⌜ settled (rowsOf (now (bank .exit))) (now (lists .exit)) r ≡ decidedOf (rowsOf (now (bank .entry))) (now (lists .entry)) (now (input .entry)) (plan .reading) miss hit ⌝ }
 {
     let reading = plan.reading;
     match reading {
         Reading::Refused(r) => kept(0, Verdict::Refused(r)),
-        Reading::Taken(taken, used) => handle(bank, lists, input, taken, used, miss, hit, row),
+        Reading::Taken(taken, used) => handle(bank, lists, input, taken, used, miss, hit),
     }
 }
 
@@ -171,23 +201,32 @@ fn handle(
     input: &[u8],
     taken: Record,
     used: usize,
-    miss: usize,
-    hit: usize,
-    row: Filter,
+    miss: Found,
+    hit: Found,
 ) -> Done
-    ensures { λ r. ⌜ settled (rowsOf (now (bank .exit))) (now (lists .exit)) r ≡ takenBy (rowsOf (now (bank .entry))) (now (lists .entry)) (now (input .entry)) taken used miss hit row ⌝ }
+    ensures { λ r. ⌜ settled (rowsOf (now (bank .exit))) (now (lists .exit)) r ≡ takenBy (rowsOf (now (bank .entry))) (now (lists .entry)) (now (input .entry)) taken used miss hit ⌝ }
 {
     match taken {
         Record::Port(r) => kept(used, setup::set_port(bank, r)),
-        Record::Filter(r) => place(r, used, row),
+        Record::Filter(r) => place(r, used, row_in(hit)),
         Record::Gate(r) => kept(used, setup::set_gate(bank, r)),
         Record::GateEntry(r) => kept(used, setup::add_entry(bank, lists, input, r)),
         Record::Meter(r) => kept(used, setup::set_meter(bank, r)),
         Record::Group(r) => kept(used, setup::set_group(bank, r)),
         Record::Scheduler(r) => kept(used, setup::set_scheduler(bank, r)),
         Record::Start(r) => kept(used, setup::start(bank, r, miss, hit)),
-        Record::Arrival(a) => kept(used, path::arrive(bank, lists, a, hit, row)),
-        Record::Clear(r) => kept(used, setup::clear(bank, r, row)),
+        Record::Arrival(a) => kept(used, path::arrive(bank, lists, a, hit)),
+        Record::Clear(r) => kept(used, setup::clear(bank, r, row_in(hit))),
+    }
+}
+
+// The row that was found; the empty one where there is none.
+fn row_in(found: Found) -> Filter
+    ensures { λ r. ⌜ r ≡ rowIn found ⌝ }
+{
+    match found {
+        Found::At(_, row) => row,
+        Found::Nothing => filter::empty(),
     }
 }
 
@@ -223,7 +262,7 @@ fn kept(used: usize, v: Verdict) -> Done
     ensures { λ r. ⌜ r ≡ kept used v ⌝ }
 {
     Done {
-        at: 64,
+        at: sizes::FILTERS,
         row: filter::empty(),
         answer: Answer {
             used: octets(used, v),

@@ -4,9 +4,6 @@ use bank::Lists;
 use bank::Words;
 use filter::Filter;
 use run::Progress;
-ghost use mathlib.Core.Path.{_≡_};
-ghost use Prim.Native.Nat.{ℕ, _<_, _≤_, _+_, _-_, min};
-ghost use lib.ListN.{length, getD};
 
 // How a stream ended.
 pub struct Drained {
@@ -18,7 +15,7 @@ pub struct Drained {
 }
 
 struct State {
-    table: [Filter; 64],
+    table: [Filter; sizes::FILTERS],
     // Octets at the front of the buffer that are not taken yet, and those that were taken before them.
     kept: usize,
     octets: u64,
@@ -45,14 +42,14 @@ pub fn drain(bank: &mut Words, lists: &mut Lists, quiet: bool) -> Drained {
 pub fn report(bank: &Words) {
     let mut out = io::large_buffer();
     let n = text::put_report(&mut out, 0, bank);
-    write(&out, n);
+    pieces::write(&out, n);
 }
 
 // The last line.
 pub fn close(d: Drained) {
     let mut out = io::buffer();
     let n = last_line(&mut out, d);
-    write(&out, n);
+    pieces::write(&out, n);
 }
 
 fn last_line(out: &mut [u8], d: Drained) -> usize {
@@ -80,7 +77,7 @@ fn pieces(
     let none = filter::empty();
     let start = run::fresh(quiet);
     let mut s = State {
-        table: [none; 64],
+        table: [none; sizes::FILTERS],
         kept: 0,
         octets: 0,
         progress: start,
@@ -100,7 +97,7 @@ fn piece(s: State, bank: &mut Words, lists: &mut Lists, buf: &mut [u8], out: &mu
     let kept = s.kept;
     let table = s.table;
     let before = s.progress;
-    let end = fill(buf, kept, s.starved);
+    let end = pieces::fill(buf, kept, s.starved);
     if s.starved & (end <= kept) {
         return State {
             table: table,
@@ -115,55 +112,14 @@ fn piece(s: State, bank: &mut Words, lists: &mut Lists, buf: &mut [u8], out: &mu
     let c = run::run_piece(table, bank, lists, &buf[..end], out, from);
     let next = c.table;
     let p = c.progress;
-    write(out, p.filled);
-    let at = least(p.at, end);
-    let left = keep(buf, at, end);
+    pieces::write(out, p.filled);
+    let left = pieces::keep(buf, p.at, end);
     State {
         table: next,
         kept: left,
-        octets: std::num::wrapping_add_u64(s.octets, at as u64),
+        octets: std::num::wrapping_add_u64(s.octets, (end - left) as u64),
         progress: p,
         starved: (p.refusal == 1) | (left == 0),
         more: p.refusal <= 1,
     }
-}
-
-// Reads once, behind the octets that are kept, and answers how many octets there are now.
-fn fill(buf: &mut [u8], kept: usize, starved: bool) -> usize
-    ensures { λ r. ⌜ (r ≤ length (now (buf .exit))) × (length (now (buf .exit)) ≡ length (now (buf .entry))) ⌝ }
-{
-    if kept > buf.len() {
-        return 0;
-    }
-    if !starved {
-        return kept;
-    }
-    let got = libc::read(0, &mut buf[kept..]);
-    let n = io::count(got, &buf[kept..]);
-    kept + n
-}
-
-fn write(out: &[u8], filled: usize) {
-    let n = least(filled, out.len());
-    io::write_all(1, &out[..n]);
-}
-
-// The octets from `from` to `end` move to the front: a record that is not whole waits there for its rest.
-fn keep(buf: &mut [u8], from: usize, end: usize) -> usize
-    requires { ⌜ (from ≤ end) × (end ≤ length (now buf)) ⌝ }
-    ensures { λ r. ⌜ (r ≡ end - from) × ((i : ℕ) → i < end - from → getD (now (buf .exit)) i 0 ≡ getD (now (buf .entry)) (from + i) 0) ⌝ }
-{
-    let n = end - from;
-    let mut i: usize = 0;
-    while i < n {
-        buf[i] = buf[from + i];
-        i += 1;
-    }
-    n
-}
-
-fn least(a: usize, b: usize) -> usize
-    ensures { λ r. ⌜ r ≡ min a b ⌝ }
-{
-    if a <= b { a } else { b }
 }

@@ -9,8 +9,7 @@ use lib.Dec.{ltb}
 use lib.ListN.{length, getD, set, drop}
 use lib.Seq.{drop-cons}
 use borrow.Author.Tests.{ltb-false, lt-ltb, le-ltb, eq-eqb, ne-eqb}
-use Rattle.text.specs.Page.{Page, page, putOf, written}
-use Rattle.text.specs.Lines.{digitsIn, digitsOf, pairOf, newline, itemOf, upTo}
+use Rattle.text.specs.Meaning.{Page, page, putOf, written, digitsIn, digitsOf, pairOf, newline, itemOf, upTo}
 
 -- ---- pages
 

@@ -1,3 +1,2 @@
-pub mod Page
-pub mod Lines
+pub mod Meaning
 pub mod Laws

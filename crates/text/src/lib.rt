@@ -9,9 +9,11 @@ use meter::Meter;
 use verdict::Drop;
 use verdict::Pass;
 ghost use mathlib.Core.Path.{_≡_};
-ghost use Rattle.bank.specs.Rows.{rowsOf};
-ghost use Rattle.text.specs.Page.{page, putOf, written};
-ghost use Rattle.text.specs.Lines.{digitsOf, pairOf, passLineOf, dropLineOf, endLineOf, refusedLineOf, itemOf, filterItemsOf, gateItemsOf, meterItemOf, portItemOf, reportOf, filtersOf, gatesOf, metersOf, portsOf, timeOf};
+ghost use Rattle.bank.specs.Meaning.{rowsOf};
+ghost use Rattle.text.specs.Meaning.{page, putOf, written, digitsOf, pairOf, passLineOf, dropLineOf, endLineOf, refusedLineOf, itemOf, filterItemsOf, gateItemsOf, meterItemOf, portItemOf, reportOf, filtersOf, gatesOf, metersOf, portsOf, timeOf};
+
+// The room that is kept for a line: the longest has 53 octets.
+pub const LINE: usize = 64;
 
 // Ruled out: another octet; the place not moved on.
 pub fn put_octet(out: &mut [u8], at: usize, octet: u8) -> usize
@@ -136,7 +138,7 @@ fn put_filters(out: &mut [u8], at: usize, bank: &Words) -> usize
 {
     let mut next = at;
     let mut i: usize = 0;
-    while i < 64 {
+    while i < sizes::FILTERS {
         let c = bank::counters_at(bank, i);
         next = put_filter(out, next, i as u64, c);
         i += 1;
@@ -149,7 +151,7 @@ fn put_gates(out: &mut [u8], at: usize, bank: &Words) -> usize
 {
     let mut next = at;
     let mut i: usize = 0;
-    while i < 16 {
+    while i < sizes::GATES {
         let g = bank::gate_at(bank, i);
         next = put_gate(out, next, i as u64, g);
         i += 1;
@@ -162,7 +164,7 @@ fn put_meters(out: &mut [u8], at: usize, bank: &Words) -> usize
 {
     let mut next = at;
     let mut i: usize = 0;
-    while i < 16 {
+    while i < sizes::METERS {
         let m = bank::meter_at(bank, i);
         next = put_meter(out, next, i as u64, m);
         i += 1;
@@ -175,7 +177,7 @@ fn put_ports(out: &mut [u8], at: usize, bank: &Words) -> usize
 {
     let mut next = at;
     let mut i: usize = 0;
-    while i < 8 {
+    while i < sizes::PORTS {
         let p = bank::port_at(bank, i);
         next = put_port(out, next, i as u64, p);
         i += 1;

@@ -1,3 +1,2 @@
-pub mod Reply
-pub mod Reading
+pub mod Meaning
 pub mod Cases

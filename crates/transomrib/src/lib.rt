@@ -10,10 +10,9 @@ use verdict::Answer;
 use verdict::Verdict;
 ghost use mathlib.Core.Path.{_≡_};
 ghost use mir.Val.{boolByte};
-ghost use Rattle.bank.specs.Rows.{rowsOf};
-ghost use Rattle.stage.specs.Take.{bridge};
-ghost use Rattle.transomrib.specs.Reply.{replyOf, short, replied, repliedOf};
-ghost use Rattle.transomrib.specs.Reading.{inTable, chosenOf, readingOf};
+ghost use Rattle.bank.specs.Meaning.{rowsOf};
+ghost use Rattle.stage.specs.Meaning.{bridge};
+ghost use Rattle.transomrib.specs.Meaning.{replyOf, shortReply, replied, repliedOf, ifInTable, chosenOf, namedOf};
 
 // An answer as numbers. A field that says nothing of the verdict is 0.
 #[repr(C)]
@@ -78,7 +77,7 @@ pub fn spelled(answer: Answer) -> Reply
 
 // A reply to all but a frame that passes.
 fn short(used: u64, verdict: u8, number: u8) -> Reply
-    ensures { λ r. ⌜ r ≡ short used verdict number ⌝ }
+    ensures { λ r. ⌜ r ≡ shortReply used verdict number ⌝ }
 {
     Reply {
         eligible: 0,
@@ -92,11 +91,11 @@ fn short(used: u64, verdict: u8, number: u8) -> Reply
     }
 }
 
-// One counter, or a flag as 0 or 1: `what` names it (specs/Reading.antt), `index` says whose.
+// One counter, or a flag as 0 or 1: `what` names it (specs/Meaning.antt), `index` says whose.
 // Ruled out: the counter of filter 0 for an index past the table; PassingFrames for NotPassingFrames.
 #[no_mangle]
 pub extern "C" fn transomrib_read(bank: &Words, what: u32, index: u32) -> u64
-    ensures { λ r. ⌜ r ≡ readingOf (rowsOf (now (bank .entry))) what index ⌝ }
+    ensures { λ r. ⌜ r ≡ namedOf (rowsOf (now (bank .entry))) what index ⌝ }
 {
     let i = index as usize;
     choose(
@@ -113,17 +112,17 @@ fn choose(what: u32, i: usize, c: Counters, g: Gate, m: Meter, p: Port) -> u64
     ensures { λ r. ⌜ r ≡ chosenOf what i c g m p ⌝ }
 {
     match what {
-        1 => in_table(i, 64, c.matching),
-        2 => in_table(i, 64, c.passing_sdu),
-        3 => in_table(i, 64, c.not_passing_sdu),
-        4 => in_table(i, 64, c.passing),
-        5 => in_table(i, 64, c.not_passing),
-        6 => in_table(i, 64, c.red),
-        7 => in_table(i, 64, flag(c.oversize)),
-        8 => in_table(i, 16, flag(g.invalid_receive_flag)),
-        9 => in_table(i, 16, flag(g.octets_flag)),
-        10 => in_table(i, 16, flag(m.red_flag)),
-        11 => in_table(i, 8, p.discarded),
+        1 => in_table(i, sizes::FILTERS, c.matching),
+        2 => in_table(i, sizes::FILTERS, c.passing_sdu),
+        3 => in_table(i, sizes::FILTERS, c.not_passing_sdu),
+        4 => in_table(i, sizes::FILTERS, c.passing),
+        5 => in_table(i, sizes::FILTERS, c.not_passing),
+        6 => in_table(i, sizes::FILTERS, c.red),
+        7 => in_table(i, sizes::FILTERS, flag(c.oversize)),
+        8 => in_table(i, sizes::GATES, flag(g.invalid_receive_flag)),
+        9 => in_table(i, sizes::GATES, flag(g.octets_flag)),
+        10 => in_table(i, sizes::METERS, flag(m.red_flag)),
+        11 => in_table(i, sizes::PORTS, p.discarded),
         _ => 0,
     }
 }
@@ -136,7 +135,7 @@ fn flag(b: bool) -> u64
 
 // 0 past the table.
 fn in_table(i: usize, size: usize, n: u64) -> u64
-    ensures { λ r. ⌜ r ≡ inTable i size n ⌝ }
+    ensures { λ r. ⌜ r ≡ ifInTable i size n ⌝ }
 {
     if i < size { n } else { 0 }
 }

@@ -1,7 +1,7 @@
 // What a call answers: how many octets it used, and the verdict (01, Refusal numbers; 01, A frame's path).
 use record::Refusal;
 ghost use mathlib.Core.Path.{_≡_};
-ghost use Rattle.verdict.specs.Numbers.{dropNumberOf};
+ghost use Rattle.verdict.specs.Meaning.{dropNumberOf};
 
 // Why a frame is dropped. `dropNumberOf` in specs/ has document 01's number for each case.
 pub enum Drop {

@@ -8,29 +8,17 @@ use Rattle.bucket.specs.Laws.{ceiling-by-none, ceiling-whole, ceiling-pa
 use Rattle.bucket.proofs.divided.Statement.{statement}
 use Rattle.bucket.proofs.divided.Tie as tie
 
--- src/lib.rt:87:9
 returns : tie.Need-returns
 returns c = sym (ceiling-by-none (c .before .args .n) (c .before .args .rate) (search needs))
 
--- src/lib.rt:89:17
-div-whole : tie.Need-div-whole
-div-whole c = search needs
-
--- src/lib.rt:90:8
-rem-if2 : tie.Need-rem-if2
-rem-if2 c = search needs
-
--- src/lib.rt:90:39
 add-result : tie.Need-add-result
 add-result c = let a = c .before .before .args in omega (arith, div-add-mod' (a .n) (a .rate), mul-le-mul-left {m = 1} {n = a .rate} (a .n / a .rate) (search needs), mul-one (a .n / a .rate))
 
--- src/lib.rt:83:1
 returns-2 : tie.Need-returns-2
 returns-2 c = let a = c .before .before .args in sym (ceiling-whole (a .n) (a .rate) (search needs) (search needs))
 
--- src/lib.rt:83:1
 returns-3 : tie.Need-returns-3
 returns-3 c = let a = c .before .before .args in sym (ceiling-part (a .n) (a .rate) (search needs) (search needs))
 
 pub divided-spec : {M : Type 1} → statement M
-divided-spec = tie.close (tie.spec returns div-whole rem-if2 add-result returns-2 returns-3)
+divided-spec = tie.close (tie.spec returns (λ c. search needs) (λ c. search needs) add-result returns-2 returns-3)

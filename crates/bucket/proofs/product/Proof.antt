@@ -25,31 +25,9 @@ mul-lesser c =
     let short : a .d < 1_073_741_824 = ltb-true _ _ (second (ltb (a .rate) 17_179_869_184) (ltb (a .d) 1_073_741_824) (c .if1 .taken)) in
     omega (arith, mul-le-mul {n₁ = a .rate} {m₁ = a .d} {n₂ = 17_179_869_183} {m₂ = 1_073_741_823} (omega arith) (omega arith))
 
--- src/lib.rt:33:9
-lesser-requires : tie.Need-lesser-requires
-lesser-requires c κs = search needs
-
--- src/lib.rt:33:9
-returns : tie.Need-returns
-returns c = search needs
-
--- src/lib.rt:36:9
-tall-requires : tie.Need-tall-requires
-tall-requires c κs = search needs
-
--- src/lib.rt:36:9
-returns-2 : tie.Need-returns-2
-returns-2 c = search needs
-
--- src/lib.rt:39:9
-tall-requires-2 : tie.Need-tall-requires-2
-tall-requires-2 c κs = search needs
-
--- src/lib.rt:39:9
 returns-3 : tie.Need-returns-3
 returns-3 c = let a = c .before .before .before .before .args in omega (arith, mul-comm (a .rate) (a .d))
 
--- src/lib.rt:29:1
 returns-4 : tie.Need-returns-4
 returns-4 c = let a = c .before .before .before .args in omega (arith, mul-le-mul {n₁ = 4_294_967_296} {m₁ = 4_294_967_296} {n₂ = a .rate} {m₂ = a .d} (search needs) (search needs))
 
@@ -58,10 +36,10 @@ product-spec =
     tie.close
     (tie.spec
     mul-lesser
-    lesser-requires
-    returns
-    tall-requires
-    returns-2
-    tall-requires-2
+    (λ c κs. search needs)
+    (λ c. search needs)
+    (λ c κs. search needs)
+    (λ c. search needs)
+    (λ c κs. search needs)
     returns-3
     returns-4)

@@ -21,23 +21,11 @@ mul-upper c = let a = c .args in omega (arith, fits (a .a) (a .x / 4_294_967_296
 returns : tie.Need-returns
 returns c = let a = c .before .args in omega (arith, halves (a .a) (a .x))
 
-mul-high : tie.Need-mul-high
-mul-high c = search needs
-
 mul-low : tie.Need-mul-low
 mul-low c = let a = c .before .args in omega (arith, fits (a .a) (a .x % 4_294_967_296) (omega arith) (omega arith))
 
 returns-2 : tie.Need-returns-2
 returns-2 c = let a = c .before .before .args in omega (arith, halves (a .a) (a .x))
-
-sub-lesser : tie.Need-sub-lesser
-sub-lesser c = search needs
-
-lesser-requires : tie.Need-lesser-requires
-lesser-requires c κs = search needs
-
-add-result : tie.Need-add-result
-add-result c = search needs
 
 returns-3 : tie.Need-returns-3
 returns-3 c = let a = c .before .before .before .args in omega (arith, halves (a .a) (a .x))
@@ -48,10 +36,10 @@ tall-spec =
     (tie.spec
     mul-upper
     returns
-    mul-high
+    (λ c. search needs)
     mul-low
     returns-2
-    sub-lesser
-    lesser-requires
-    add-result
+    (λ c. search needs)
+    (λ c κs. search needs)
+    (λ c. search needs)
     returns-3)

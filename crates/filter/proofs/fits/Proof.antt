@@ -1,7 +1,7 @@
 -- `filter::fits` meets its contract: the tests, joined by `&` and `|`, are `fitsOf`'s.
 -- Assumes nothing.
 use mathlib.Core.Path.{refl}
-use Rattle.filter.specs.Filter.{fitsOf}
+use Rattle.filter.specs.Meaning.{fitsOf}
 use Rattle.filter.proofs.fits.Statement.{statement}
 use Rattle.filter.proofs.fits.Tie as tie
 

@@ -39,7 +39,7 @@ use denote.Triple.Table.{entered}
 use denote.Triple.Walked.{says, Stays, stay-dropped, stay-slice, walkOf, goes-dropped, goes-slice, Walks, ends-at, walked, walk-meets}
 use denote.Exit.{yes}
 use Rattle.filter.specs.declared.Filter.{Filter}
-use Rattle.filter.specs.Filter.{noRow}
+use Rattle.filter.specs.Meaning.{noRow}
 use Rattle.filter.proofs.Table.{in-room, past, within}
 use Rattle.filter.proofs.Filter as T
 use Rattle.filter.proofs.Filter.Laws as T′

@@ -40,7 +40,7 @@ use denote.Triple.Table.{entered, cited}
 use denote.Triple.Walked.{says, Stays, stay-dropped, walkOf, goes-dropped, Walks, ends-at, walked, walk-meets}
 use denote.Exit.{yes}
 use Rattle.filter.specs.declared.Filter.{Filter}
-use Rattle.filter.specs.Filter.{noRow, rowOf}
+use Rattle.filter.specs.Meaning.{noRow, rowOf}
 use Rattle.filter.proofs.Table.{in-room, past, within}
 use Rattle.filter.proofs.Filter as T
 use Rattle.filter.proofs.Filter.Laws as T′

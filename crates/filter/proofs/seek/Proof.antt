@@ -48,13 +48,15 @@ use denote.Triple.Clauses.{ensured, lasts}
 use denote.Exit.{yes}
 use Rattle.filter.specs.declared.Filter.{Filter}
 use Rattle.filter.specs.declared.Question.{Question}
-use Rattle.filter.specs.Filter.{rowOf}
+use Rattle.filter.specs.Meaning.{rowOf}
 use Rattle.filter.specs.Seek.{nearOf, passableOf, seekOf, seek-found, seek-next, seek-over}
 use Rattle.filter.proofs.Table.{is-true, is-false}
 use Rattle.filter.proofs.Asking as asking
 use Rattle.filter.proofs.Asking.{RowAt}
 use Rattle.filter.proofs.Filter as T
 use Rattle.filter.proofs.Filter.Laws as T′
+use Rattle.filter.proofs.Key as K
+use Rattle.filter.proofs.Key.Laws as K′
 use Rattle.filter.proofs.Question as Q
 use Rattle.filter.proofs.Question.Laws as Q′
 use Rattle.filter.proofs.row_at as row-at
@@ -138,21 +140,21 @@ module _ {M : Type 1} (𝓤 : URA M) (H : Heap 𝓤) (A : Atoms 𝓤) (W : Given
   passable-said : (m : ℕ) → ent 𝓤 (ensured 𝓤 H A passable′.ended (passable′.clauses 𝓤 H A mem run) tt (ask, (n, tt)) tt m) (fact 𝓤 (m ≡ passableOf ask n))
   passable-said m = exE 𝓤 _ (λ us. snd∗ 𝓤 (sem 𝓤 H A (lasts passable′.ended tt (ask, (n, tt)) us)) (fact 𝓤 (m ≡ passableOf ask n)))
 
-  handle-fits : ask .handle < 2 ^ 32
-  handle-fits = LL.owed Q.the-type Q′.the-laws ask _ is-ask .1 .1 .1 .0 .1
+  handle-fits : ask .key .handle < 2 ^ 32
+  handle-fits = LL.owed K.the-type K′.the-laws (ask .key) _ (LL.owed Q.the-type Q′.the-laws ask _ is-ask .1 .1 .1 .0) .0 .1
 
   abbrev to-near : Filter → Val → Near 𝓤 H A mem run .Ghost
-  to-near r u = ((tt, tt, tt, (r, (ask .handle, tt)), (u ∷ [], (vint w32 (ask .handle) ∷ [], tt))), tt)
+  to-near r u = ((tt, tt, tt, (r, (ask .key .handle, tt)), (u ∷ [], (vint w32 (ask .key .handle) ∷ [], tt))), tt)
 
-  near-asked : (r : Filter) (u : Val) → ent 𝓤 (onEntry 𝓤 H A near′.signature tt tt (r, (ask .handle, tt)) (u ∷ [], (vint w32 (ask .handle) ∷ [], tt))) (Near 𝓤 H A mem run .pre (to-near r u))
-  near-asked r u = qed W (‵ ftrue ∷ ‵ (owns (R ∷ u32 ∷ []) (r, (ask .handle, tt)) (u ∷ [], (vint w32 (ask .handle) ∷ [], tt))) ∷ []) ∵ join ! $ frame ! $ done !
+  near-asked : (r : Filter) (u : Val) → ent 𝓤 (onEntry 𝓤 H A near′.signature tt tt (r, (ask .key .handle, tt)) (u ∷ [], (vint w32 (ask .key .handle) ∷ [], tt))) (Near 𝓤 H A mem run .pre (to-near r u))
+  near-asked r u = qed W (‵ ftrue ∷ ‵ (owns (R ∷ u32 ∷ []) (r, (ask .key .handle, tt)) (u ∷ [], (vint w32 (ask .key .handle) ∷ [], tt))) ∷ []) ∵ join ! $ frame ! $ done !
 
   goes-near : (r : Filter) (u : Val) → ent 𝓤 (sem 𝓤 H A (R .own r (u ∷ []))) (Near 𝓤 H A mem run .pre (to-near r u))
   goes-near r u =
-      qed W (‵ (R .own r (u ∷ [])) ∷ []) ∵ nothing ! $ owned ! u32 (Is u32) (uint-makes 𝓤 H A W w32) (ask .handle) _ (refl, handle-fits) $ fjoin ! $ move ! (1 ∷ 0 ∷ []) $ fjoin ! $ nothing ! $ by ! (near-asked r u)
+      qed W (‵ (R .own r (u ∷ [])) ∷ []) ∵ nothing ! $ owned ! u32 (Is u32) (uint-makes 𝓤 H A W w32) (ask .key .handle) _ (refl, handle-fits) $ fjoin ! $ move ! (1 ∷ 0 ∷ []) $ fjoin ! $ nothing ! $ by ! (near-asked r u)
 
-  near-said : (r : Filter) (t : Bool) → ent 𝓤 (ensured 𝓤 H A near′.ended (near′.clauses 𝓤 H A mem run) tt (r, (ask .handle, tt)) tt t) (fact 𝓤 (t ≡ nearOf (ask .handle) r))
-  near-said r t = exE 𝓤 _ (λ us. snd∗ 𝓤 (sem 𝓤 H A (lasts near′.ended tt (r, (ask .handle, tt)) us)) (fact 𝓤 (t ≡ nearOf (ask .handle) r)))
+  near-said : (r : Filter) (t : Bool) → ent 𝓤 (ensured 𝓤 H A near′.ended (near′.clauses 𝓤 H A mem run) tt (r, (ask .key .handle, tt)) tt t) (fact 𝓤 (t ≡ nearOf (ask .key .handle) r))
+  near-said r t = exE 𝓤 _ (λ us. snd∗ 𝓤 (sem 𝓤 H A (lasts near′.ended tt (r, (ask .key .handle, tt)) us)) (fact 𝓤 (t ≡ nearOf (ask .key .handle) r)))
 
   -- ---- the exit
   exits : (i : ℕ) → i < 2 ^ 64 → i ≡ seekOf ask ys start → ent 𝓤 (⋆ 𝓤 H A (‵ (flft κ q) ∷ [])) (Post (vint w64 i))
@@ -186,10 +188,10 @@ module _ {M : Type 1} (𝓤 : URA M) (H : Heap 𝓤) (A : Atoms 𝓤) (W : Given
     below : (i : ℕ) → i < m → i < passableOf ask n
     below i l = omega (arith, l, m-is)
 
-    found : (t : St) → t .0 < m → nearOf (ask .handle) (rowOf ys (t .0)) ≡ true → t .0 ≡ seekOf ask ys start
+    found : (t : St) → t .0 < m → nearOf (ask .key .handle) (rowOf ys (t .0)) ≡ true → t .0 ≡ seekOf ask ys start
     found t l e = sym (seek-found ask ys (t .0) (below (t .0) l) e) ∙ t .1 .1
 
-    abbrev passed : (t : St) → t .0 < m → nearOf (ask .handle) (rowOf ys (t .0)) ≡ false → St
+    abbrev passed : (t : St) → t .0 < m → nearOf (ask .key .handle) (rowOf ys (t .0)) ≡ false → St
     passed t l e = (t .0 + 1, (up (t .0) l, sym (seek-next ask ys (t .0) (below (t .0) l) e) ∙ t .1 .1))
 
     none : (t : St) → m ≤ t .0 → t .0 ≡ seekOf ask ys start
@@ -240,9 +242,9 @@ module _ {M : Type 1} (𝓤 : URA M) (H : Heap 𝓤) (A : Atoms 𝓤) (W : Given
             -- [what the row owns; the token, and true; what table owns; _9; …; _8; …; _7; …; _6; …; _5; …; _4; …; _3; …; _2; …; _1; …; _0; …]
             peeks ! R (Is R) (shows 𝓤 H A R) r (u ∷ []) (λ is. land ! (from ! (stop !)) (init ! 9 refl (LL.lawful T.the-type T′.the-laws 𝓤 H A W .typed r _ is .0)) $
             use1 W (raw (Near 𝓤 H A mem run .pre (to-near r u))) (goes-near r u) $
-            calls-at ! fm (Near 𝓤 H A mem run) known-near (to-near r u) (and-then ! (load ! (from ! (stop !)) (look ! 9 refl)) (and-then ! (load ! (from ! (fld ! refl (stop !))) (look-in ! 17 (sub ! 3 refl (whole !)))) (no-more !))) (λ v.
-            use1 W (later (some (λ (z : Bool). (‵ ftrue ⊛ ‵ (bool .own z (v ∷ []))) ⊛ raw (ensured 𝓤 H A near′.ended (near′.clauses 𝓤 H A mem run) tt (r, (ask .handle, tt)) tt z)))) (id⊢ 𝓤 _) $ await ! tt $ pick ! (λ z.
-            split ! $ move ! (1 ∷ []) $ use1 W (raw (fact 𝓤 (z ≡ nearOf (ask .handle) r))) (near-said r z) $ heard ! (z ≡ nearOf (ask .handle) r) (λ e′. split ! $ move ! (1 ∷ []) $
+            calls-at ! fm (Near 𝓤 H A mem run) known-near (to-near r u) (and-then ! (load ! (from ! (stop !)) (look ! 9 refl)) (and-then ! (load ! (from ! (fld ! refl (fld ! refl (stop !)))) (look-in ! 17 (sub ! 0 refl (sub ! 3 refl (whole !))))) (no-more !))) (λ v.
+            use1 W (later (some (λ (z : Bool). (‵ ftrue ⊛ ‵ (bool .own z (v ∷ []))) ⊛ raw (ensured 𝓤 H A near′.ended (near′.clauses 𝓤 H A mem run) tt (r, (ask .key .handle, tt)) tt z)))) (id⊢ 𝓤 _) $ await ! tt $ pick ! (λ z.
+            split ! $ move ! (1 ∷ []) $ use1 W (raw (fact 𝓤 (z ≡ nearOf (ask .key .handle) r))) (near-said r z) $ heard ! (z ≡ nearOf (ask .key .handle) r) (λ e′. split ! $ move ! (1 ∷ []) $
             -- [the answer; true; the token, and true; what table owns; _9; …; _8; …; _7; …; _6; …; _5; …; _4; …; _3; …; _2; …; _1; …; _0; …]
             peeks ! bool (Is bool) (shows 𝓤 H A bool) z (v ∷ []) (λ is′. land ! (from ! (stop !)) (init ! 4 refl (bool-lawful 𝓤 H A W .typed z _ is′ .0)) $
             rewrite ! 4 (λ (k : Val). ‵ (fat fullShare tyBool l₉ 0 k)) (ap only (bool-tells z (v ∷ []) is′)) refl $
@@ -252,11 +254,11 @@ module _ {M : Type 1} (𝓤 : URA M) (H : Heap 𝓤) (A : Atoms 𝓤) (W : Given
             (λ y. assigns ! (of-opd ! (load ! (from ! (stop !)) (look ! 10 refl))) (from ! (stop !)) (init ! 20 refl (tt, record { fits = t .1 .0 })) $
             returns-within ! Post refl (look ! 20 refl) $ forget ! 2 refl $ forget ! 4 refl $ forget ! 6 refl $ forget ! 8 refl $ forget ! 10 refl $ forget ! 12 refl $ forget ! 14 refl $ forget ! 16 refl $ forget ! 18 refl $ forget ! 20 refl $
             move ! (20 ∷ 21 ∷ []) $ free1 ! $ move ! (18 ∷ 19 ∷ []) $ free1 ! $ move ! (16 ∷ 17 ∷ []) $ free1 ! $ move ! (14 ∷ 15 ∷ []) $ free1 ! $ move ! (12 ∷ 13 ∷ []) $ free1 ! $ move ! (10 ∷ 11 ∷ []) $ free1 ! $ move ! (8 ∷ 9 ∷ []) $ free1 ! $ move ! (6 ∷ 7 ∷ []) $ free1 ! $ move ! (4 ∷ 5 ∷ []) $ free1 ! $ move ! (2 ∷ 3 ∷ []) $ free1 ! $ free0 ! $
-            keep ! (0 ∷ []) $ by ! (exits (t .0) (t .1 .0) (found t l (sym (ap (nearOf (ask .handle)) e) ∙ sym e′ ∙ is-true z y))))
+            keep ! (0 ∷ []) $ by ! (exits (t .0) (t .1 .0) (found t l (sym (ap (nearOf (ask .key .handle)) e) ∙ sym e′ ∙ is-true z y))))
             (λ y. skips ! $ exec ! C Λ En bump (anyQ (afterTurn 𝓤 H (Below 𝓤 H A less I t) Left)) $
             assigns-last ! (bin ! (load ! (from ! (stop !)) (look ! 10 refl)) (lit ! tt) (record { fits = up (t .0) l })) (from ! (stop !)) (store ! 10 refl (tt, record { fits = up (t .0) l })) $
             forget ! 2 refl $ forget ! 4 refl $ forget ! 8 refl $
-            again ! less I t (passed t l (sym (ap (nearOf (ask .handle)) e) ∙ sym e′ ∙ is-false z y)) (falls (t .0) l))))))))))
+            again ! less I t (passed t l (sym (ap (nearOf (ask .key .handle)) e) ∙ sym e′ ∙ is-false z y)) (falls (t .0) l))))))))))
 
         -- the turn that leaves the loop, and the rest of the body
         ends : (t : St) → m ≤ t .0 → Sq W (At (t .0)) (runs C Λ En mir.turn-1 (anyQ (afterTurn 𝓤 H (Below 𝓤 H A less I t) Left)))

@@ -3,28 +3,23 @@ use Prim.Native.Nat.{_+_, _-_, _*_, _≤_}
 use mathlib.Core.Path.{_≡_}
 use native.Mathlib.Omega.{arith}
 use native.Mathlib.Nat.{zero-add}
-use Rattle.gate.specs.Meaning.{countOf, entriesOf, cycleOf}
+use Rattle.gate.specs.Meaning.{entriesIn, entriesOf, cycleOf}
 use Rattle.gate.specs.Walk.{restOf, rest-all, cycle-more, cycle-done}
 use Rattle.gate.proofs.cycle.Statement.{statement}
+use Rattle.sizes.specs.Meaning.{entryCount}
 use Rattle.gate.proofs.cycle.Tie as tie
 
 abbrev Inv-loop : tie.InvT-loop
-Inv-loop list sum₀ i₀ sum i = (i ≤ countOf list) × (sum ≤ i * 4_294_967_296) × (sum + cycleOf (restOf list i) ≡ cycleOf (entriesOf list))
+Inv-loop list sum₀ i₀ sum i = (i ≤ entriesIn list) × (sum ≤ i * 4_294_967_296) × (sum + cycleOf (restOf list i) ≡ cycleOf (entriesOf list))
 
 abbrev μ-loop : tie.MeasureT-loop
-μ-loop list sum₀ i₀ sum i = 8 - i
+μ-loop list sum₀ i₀ sum i = entryCount - i
 
 loop-holds : tie.Need-loop-holds Inv-loop μ-loop
 loop-holds c = (omega arith, omega arith, rw (rest-all, zero-add))
 
 returns : tie.Need-returns Inv-loop μ-loop
 returns c = let l = c .before .before .loop in cycle-done (c .before .before .before .before .args .list .now) (l .i) _ _ (omega arith) (l .inv .2)
-
-interval-at-requires : tie.Need-interval-at-requires Inv-loop μ-loop
-interval-at-requires c κs = omega arith
-
-add-sum : tie.Need-add-sum Inv-loop μ-loop
-add-sum c = omega arith
 
 loop-again : tie.Need-loop-again Inv-loop μ-loop
 loop-again c =
@@ -45,8 +40,8 @@ cycle-spec =
     (λ c. omega arith)
     (λ c. omega arith)
     returns
-    interval-at-requires
-    add-sum
+    (λ c κs. omega arith)
+    (λ c. omega arith)
     (λ c. omega arith)
     (λ c. omega arith)
     loop-again

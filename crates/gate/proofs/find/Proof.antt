@@ -2,28 +2,23 @@
 use Prim.Native.Nat.{_-_, _≤_}
 use mathlib.Core.Path.{_≡_, sym, _∙_}
 use native.Mathlib.Omega.{arith}
-use Rattle.gate.specs.Meaning.{countOf, entriesOf, foundOf}
+use Rattle.gate.specs.Meaning.{entriesIn, entriesOf, foundOf}
 use Rattle.gate.specs.Walk.{restOf, rest-all, found-here, found-later, found-none}
 use Rattle.gate.proofs.find.Statement.{statement}
+use Rattle.sizes.specs.Meaning.{entryCount}
 use Rattle.gate.proofs.find.Tie as tie
 
 abbrev Inv-loop : tie.InvT-loop
-Inv-loop list time offset x₀ i₀ x i = (i ≤ countOf list) × (x ≤ time) × (foundOf time (restOf list i) i x ≡ foundOf time (entriesOf list) 0 offset)
+Inv-loop list time offset x₀ i₀ x i = (i ≤ entriesIn list) × (x ≤ time) × (foundOf time (restOf list i) i x ≡ foundOf time (entriesOf list) 0 offset)
 
 abbrev μ-loop : tie.MeasureT-loop
-μ-loop list time offset x₀ i₀ x i = 8 - i
+μ-loop list time offset x₀ i₀ x i = entryCount - i
 
 loop-holds : tie.Need-loop-holds Inv-loop μ-loop
 loop-holds c = (omega arith, omega arith, rw rest-all)
 
 returns : tie.Need-returns Inv-loop μ-loop
 returns c = let l = c .before .before .loop in sym (found-none (c .before .before .before .before .args .list .now) (l .i) _ _ (omega arith)) ∙ l .inv .2
-
-interval-at-requires : tie.Need-interval-at-requires Inv-loop μ-loop
-interval-at-requires c κs = omega arith
-
-entry-at-requires : tie.Need-entry-at-requires Inv-loop μ-loop
-entry-at-requires c κs = omega arith
 
 returns-2 : tie.Need-returns-2 Inv-loop μ-loop
 returns-2 c =
@@ -52,9 +47,9 @@ find-spec =
     (λ c. omega arith)
     (λ c. omega arith)
     returns
-    interval-at-requires
+    (λ c κs. omega arith)
     (λ c. omega arith)
-    entry-at-requires
+    (λ c κs. omega arith)
     returns-2
     (λ c. omega arith)
     (λ c. omega arith)

@@ -1,35 +1,18 @@
-use Rattle.path.specs.Path.{sduFailed}
+-- `path::count_sdu_failed` meets its contract: two counts, then the flag.
+use mathlib.Core.Path.{ap, _∙_}
 use borrow.Author.Needs.{needs}
+use Rattle.bank.specs.Meaning.{Rows, bump, withOversize}
+use Rattle.bank.specs.declared.Counter.the-variants.{NotPassingSdu}
+use Rattle.path.specs.Meaning.{sduFailed}
 use Rattle.path.proofs.count_sdu_failed.Statement.{statement}
 use Rattle.path.proofs.count_sdu_failed.Tie as tie
 
--- src/lib.rt:231:9
-counters-at-requires : tie.Need-counters-at-requires
-counters-at-requires c κs = search needs
-
--- src/lib.rt:232:5
-one-more-requires : tie.Need-one-more-requires
-one-more-requires c κs = search needs
-
--- src/lib.rt:233:5
-one-more-requires-2 : tie.Need-one-more-requires-2
-one-more-requires-2 c κs = search needs
-
--- src/lib.rt:235:5
-put-counters-requires : tie.Need-put-counters-requires
-put-counters-requires c κs = search needs
-
--- src/lib.rt:228:1
 returns : tie.Need-returns
 unfolding sduFailed
-returns c = rw (c .put-counters .ensures, c .before .before .one-more2 .ensures, c .before .before .before .one-more .ensures, c .before .before .before .before .counters-at .ensures)
+returns c =
+    let p = c .before .before .before .before .before .before .args in
+    c .put-oversize .ensures
+    ∙ ap (λ (s : Rows). withOversize s (p .f) (p .flag)) (c .before .before .count2 .ensures ∙ ap (λ (s : Rows). bump s (p .f) NotPassingSdu) (c .before .before .before .before .count .ensures))
 
 pub count-sdu-failed-spec : {M : Type 1} → statement M
-count-sdu-failed-spec =
-    tie.close
-    (tie.spec
-    counters-at-requires
-    one-more-requires
-    one-more-requires-2
-    put-counters-requires
-    returns)
+count-sdu-failed-spec = tie.close (tie.spec (λ c κs. search needs) (λ c κs. search needs) (λ c κs. search needs) returns)

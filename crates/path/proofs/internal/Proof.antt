@@ -2,11 +2,9 @@ use borrow.Author.Tests.{le-leb, lt-leb}
 use Rattle.path.proofs.internal.Statement.{statement}
 use Rattle.path.proofs.internal.Tie as tie
 
--- src/lib.rt:219:1
 returns : tie.Need-returns
 returns c = rw (le-leb _ _ (c .if1 .taken))
 
--- src/lib.rt:219:1
 returns-2 : tie.Need-returns-2
 returns-2 c = rw (lt-leb _ _ (c .if1 .left))
 

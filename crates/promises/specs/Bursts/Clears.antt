@@ -10,15 +10,14 @@ use Rattle.meter.specs.declared.Meter.{Meter}
 use Rattle.record.specs.declared.ClearRecord.{ClearRecord}
 use Rattle.record.specs.declared.Refusal.{Refusal}
 use Rattle.record.specs.declared.Refusal.the-variants.{NotSetUp}
-use Rattle.bank.specs.Rows.{Rows, withRow}
-use Rattle.bank.specs.Views.{word, isSet, gateStateRow, meterStateRow, rowOfGateState, rowOfMeterState, gateIsSet}
+use Rattle.bank.specs.Meaning.{Rows, withRow, word, isSet, gateStateRow, meterStateRow, rowOfGateState, rowOfMeterState, gateIsSet, componentRow}
 use Rattle.filter.specs.declared.Filter.{Filter}
-use Rattle.filter.specs.Filter.{countsOf}
+use Rattle.filter.specs.Meaning.{countsOf}
 use Rattle.verdict.specs.declared.Verdict.the-variants.{Refused, Taken}
-use Rattle.verdict.specs.Told.{Told, told}
-use Rattle.setup.specs.Setup.{refusedIf, oversizeLow, withFlags, redLow, oversizeOf, invalidReceiveOf, octetsOf, redOf, clearOf}
-use Rattle.promises.specs.Bursts.Pairs.{Asked, Constants, At, Over, put, outer-same}
-use Rattle.promises.specs.Bursts.Frames.{gate-row-both, meter-row-both, gate-both, meter-both, counted}
+use Rattle.verdict.specs.Meaning.{Told, told}
+use Rattle.setup.specs.Meaning.{refusedIf, withFlags, redLow, clearOversizeOf, clearInvalidReceiveOf, clearOctetsOf, clearRedOf, clearOf}
+use Rattle.promises.specs.Bursts.Pairs.{Asked, Constants, At, Over, put, outer-same, Outer}
+use Rattle.promises.specs.Bursts.Frames.{gate-row-both, meter-row-both, gate-both, meter-both, oversized}
 use Rattle.promises.specs.Bursts.Outside.{Alike, alike-stop}
 
 cond-both : (Q : Told → Told → Type 0) (b : Bool) (t u t′ u′ : Told) → Q t t′ → Q u u′ → Q (cond b t u) (cond b t′ u′)
@@ -33,30 +32,30 @@ refused-both Q true false why s s′ t t′ e h k = absurd (let w : _≡_ {A = �
 refused-both Q false true why s s′ t t′ e h k = absurd (let w : _≡_ {A = ℕ} 0 1 = cc in omega arith)
 
 module _ (k : Asked) (z : Constants) (g : ℕ) (s s′ : Rows) (o : Over k z g s s′) where
-  stored : (q : ℕ) → 8 < q → q < 137 → (vs vs′ : List ℕ) → vs ≡ vs′ → Alike k z g (told (withRow s q vs) Taken) (told (withRow s′ q vs′) Taken)
-  stored q low high vs vs′ e = record { verdicts = refl; banks = put (At k z g) s s′ o q vs vs′ (outer-same k z g q vs vs′ low high e) }
+  stored : (q : ℕ) → componentRow < q → Outer q → (vs vs′ : List ℕ) → vs ≡ vs′ → Alike k z g (told (withRow s q vs) Taken) (told (withRow s′ q vs′) Taken)
+  stored q low out vs vs′ e = record { verdicts = refl; banks = put (At k z g) s s′ o q vs vs′ (outer-same k z g q vs vs′ low out e) }
 
-  oversize-both : (i : ℕ) (row : Filter) → countsOf s row ≡ countsOf s′ row → Alike k z g (oversizeOf s i row) (oversizeOf s′ i row)
-  unfolding oversizeOf
-  oversize-both i row e = refused-both (Alike k z g) _ _ NotSetUp s s′ _ _ (ap not e) (alike-stop k z g s s′ _ o) (record { verdicts = refl; banks = counted k z g s s′ o i oversizeLow })
+  oversize-both : (i : ℕ) (row : Filter) → countsOf s row ≡ countsOf s′ row → Alike k z g (clearOversizeOf s i row) (clearOversizeOf s′ i row)
+  unfolding clearOversizeOf
+  oversize-both i row e = refused-both (Alike k z g) _ _ NotSetUp s s′ _ _ (ap not e) (alike-stop k z g s s′ _ o) (record { verdicts = refl; banks = oversized k z g s s′ o i false })
 
   no-gate : (i : ℕ) → not (gateIsSet s i) ≡ not (gateIsSet s′ i)
   no-gate i = ap (λ (u : List ℕ). not (isSet (word u 0))) (gate-row-both k z g s s′ o i)
 
-  invalid-receive-both : (i : ℕ) → Alike k z g (invalidReceiveOf s i) (invalidReceiveOf s′ i)
-  unfolding invalidReceiveOf
+  invalid-receive-both : (i : ℕ) → Alike k z g (clearInvalidReceiveOf s i) (clearInvalidReceiveOf s′ i)
+  unfolding clearInvalidReceiveOf
   invalid-receive-both i =
       refused-both (Alike k z g) _ _ NotSetUp s s′ _ _ (no-gate i) (alike-stop k z g s s′ _ o)
       (stored (gateStateRow i) (omega arith) (omega arith) _ _ (ap (λ (x : Gate). rowOfGateState (withFlags x false (x .«octets_flag»))) (gate-both k z g s s′ o i)))
 
-  octets-both : (i : ℕ) → Alike k z g (octetsOf s i) (octetsOf s′ i)
-  unfolding octetsOf
+  octets-both : (i : ℕ) → Alike k z g (clearOctetsOf s i) (clearOctetsOf s′ i)
+  unfolding clearOctetsOf
   octets-both i =
       refused-both (Alike k z g) _ _ NotSetUp s s′ _ _ (no-gate i) (alike-stop k z g s s′ _ o)
       (stored (gateStateRow i) (omega arith) (omega arith) _ _ (ap (λ (x : Gate). rowOfGateState (withFlags x (x .«invalid_receive_flag») false)) (gate-both k z g s s′ o i)))
 
-  red-both : (i : ℕ) → Alike k z g (redOf s i) (redOf s′ i)
-  unfolding redOf
+  red-both : (i : ℕ) → Alike k z g (clearRedOf s i) (clearRedOf s′ i)
+  unfolding clearRedOf
   red-both i =
       refused-both (Alike k z g) _ _ NotSetUp s s′ _ _ (ap (λ (u : List ℕ). not (isSet (word u 0))) (meter-row-both k z g s s′ o i)) (alike-stop k z g s s′ _ o)
       (stored (meterStateRow i) (omega arith) (omega arith) _ _ (ap (λ (x : Meter). rowOfMeterState (redLow x)) (meter-both k z g s s′ o i)))

@@ -1,5 +1,5 @@
 -- Step 5 on the two banks, for a frame whose filter names a scheduler of the group.
-use Prim.Native.Nat.{ℕ, _%_, _+_, _-_, _≤_, _<_}
+use Prim.Native.Nat.{ℕ, _%_, _+_, _≤_, _<_}
 use mathlib.Core.Bool.{Bool, true, false}
 use mathlib.Core.List.{List}
 use mathlib.Core.Logic.{_≢_}
@@ -7,44 +7,45 @@ use mathlib.Core.Path.{_≡_, refl, sym, ap, subst, _∙_}
 use native.Mathlib.Omega.{arith}
 use borrow.Author.Tests.{leb-true, leb-false}
 use lib.Dec.{leb}
+use Rattle.sizes.specs.Meaning.{groupCount}
 use Rattle.bucket.specs.declared.Octets.{Octets}
-use Rattle.bucket.specs.Bucket.{grains}
-use Rattle.class.specs.Table.{trafficClassOf}
+use Rattle.bucket.specs.Meaning.{grains}
+use Rattle.class.specs.Meaning.{trafficClassOf}
 use Rattle.scheduler.specs.declared.Scheduler.{Scheduler}
 use Rattle.scheduler.specs.declared.Stepped.{Stepped}
 use Rattle.scheduler.specs.declared.Outcome.{Outcome as SchedulerOutcome}
 use Rattle.scheduler.specs.declared.Outcome.the-variants.{Admitted, Dropped as Late, Refused as Unsound}
-use Rattle.scheduler.specs.Step.{stepOf as schedulerStepOf, eligibleOf}
+use Rattle.scheduler.specs.Meaning.{schedulerStepOf, eligibleOf}
 use Rattle.scheduler.specs.Range.{testOf}
 use Rattle.scheduler.specs.Cases.{step-refused, step-dropped}
-use Rattle.scheduler.specs.Larger.{Ahead, larger-burst}
+use Rattle.scheduler.specs.Larger.{Ahead, larger-burst-step}
 use Rattle.record.specs.declared.ArrivalRecord.{ArrivalRecord}
-use Rattle.bank.specs.Rows.{Rows}
-use Rattle.bank.specs.Views.{stage, word, portRow, groupRow, schedulerRow, rowOfDiscarded, rowOfSchedulerState, schedulerOf, scheduler, group, withSchedulerState, withGroupLast}
+use Rattle.bank.specs.Meaning.{Rows, component, word, portRow, groupRow, schedulerRow, rowOfSchedulerState, schedulerIn, scheduler, group, withSchedulerState, withGroupLast, groupsFrom, rowWith, oneMore}
 use Rattle.filter.specs.declared.Filter.{Filter}
+use Rattle.filter.specs.declared.Found.the-variants.{At as Hit}
 use Rattle.verdict.specs.declared.Verdict.{Verdict}
-use Rattle.verdict.specs.Told.{Told}
-use Rattle.path.specs.Path.{next, classOf, passOf, discarded, lengthOf, offeredOf, scheduledBy, scheduledOf, arrivalOf}
+use Rattle.verdict.specs.Meaning.{Told}
+use Rattle.path.specs.Meaning.{classIn, passOf, discardCounted, offeredOf, scheduledBy, scheduledOf, arrivalOf, chargedOf}
 use Rattle.path.specs.Cases.{scheduled-by}
-use Rattle.promises.specs.Bursts.Promise.{Sooner, same, sooner, Eight}
-use Rattle.promises.specs.Bursts.Pairs.{groupIn, Asked, Constants, At, Over, put, put-left, put-right, near, apart, GroupNear, SchedulerNear}
+use Rattle.promises.specs.Bursts.Meaning.{NotLater, same, earlier, Eight}
+use Rattle.promises.specs.Bursts.Pairs.{groupNamed, Asked, Constants, At, Over, put, put-left, put-right, near, apart, GroupNear, SchedulerNear}
 use Rattle.promises.specs.Bursts.Frames.{pass-both, arrival-both}
 use Rattle.promises.specs.Bursts.Outside.{port-at, group-at, scheduler-at, fixed-state, Fair, length-both}
 
 pub near-fair : Fair near
-near-fair = record { overheads = λ u v e. ap (λ (w : List ℕ). word w 1) e; discards = λ u v e. ap (λ (w : List ℕ). rowOfDiscarded w (next (word w 2))) e }
+near-fair = record { overheads = λ u v e. ap (λ (w : List ℕ). word w 1) e; discards = λ u v e. ap (λ (w : List ℕ). rowWith w 2 (oneMore (word w 2))) e }
 
 pub apart-fair : Fair apart
 apart-fair = record { overheads = λ u v e. e .overhead; discards = λ u v e. record { overhead = e .overhead } }
 
 -- one pass at two times
-sooner-pass : (s : Rows) (priority mark at at′ : ℕ) → at′ ≤ at → Sooner (passOf s priority mark true at) (passOf s priority mark true at′)
+sooner-pass : (s : Rows) (priority mark at at′ : ℕ) → at′ ≤ at → NotLater (passOf s priority mark true at) (passOf s priority mark true at′)
 unfolding passOf
-sooner-pass s priority mark at at′ h = sooner (record { priority = priority; class = classOf (trafficClassOf priority (stage s .classes % 256)); «drop_mark» = mark; timed = true; eligible = at }) at′ (omega arith)
+sooner-pass s priority mark at at′ h = earlier (record { priority = priority; class = classIn (trafficClassOf priority (component s .classes % 256)); «drop_mark» = mark; timed = true; eligible = at }) at′ (omega arith)
 
 -- unless the first drops the frame with 8
 pub record Leads (k : Asked) (z : Constants) (g : ℕ) (t t′ : Told) : Type 0 where
-  pub verdicts : Sooner (t .verdict) (t′ .verdict)
+  pub verdicts : NotLater (t .verdict) (t′ .verdict)
   pub banks : Over k z g (t .bank) (t′ .bank)
 
 abbrev pub Unless : Asked → Constants → ℕ → Told → Told → Type 0
@@ -54,27 +55,27 @@ module _ (z : Constants) (g : ℕ) (a : ArrivalRecord) (row : Filter) (some : ro
   abbrev i : ℕ
   i = row .scheduler
 
-  named : groupIn (s (schedulerRow i)) ≡ g
+  named : groupNamed (s (schedulerRow i)) ≡ g
   named = o (schedulerRow i) .fixed .names (omega arith) ∙ inside
 
-  named′ : groupIn (s′ (schedulerRow i)) ≡ g
+  named′ : groupNamed (s′ (schedulerRow i)) ≡ g
   named′ = sym (o (schedulerRow i) .pair .named (omega arith)) ∙ named
 
-  small : g < 16
+  small : g < groupCount
   small = omega (arith, named)
 
   x-near : SchedulerNear (s (schedulerRow i)) (s′ (schedulerRow i))
   x-near = o (schedulerRow i) .pair .scheduler (omega arith) named
 
-  place : groupRow g ≡ 137 + g
+  place : groupRow g ≡ groupsFrom + g
   place = omega (arith, small)
 
   group-near : GroupNear (s (groupRow g)) (s′ (groupRow g))
   group-near = o (groupRow g) .pair .group place small
 
   -- both admit
-  module _ (x x′ : Scheduler) (at at′ : ℕ) (ahead : Ahead (schedulerOf (rowOfSchedulerState (s (schedulerRow i)) x)) (schedulerOf (rowOfSchedulerState (s′ (schedulerRow i)) x′)))
-      (level : x′ .level ≤ grains (schedulerOf (s′ (schedulerRow i)) .burst .0)) (no-later : at′ ≤ at) where
+  module _ (x x′ : Scheduler) (at at′ : ℕ) (ahead : Ahead (schedulerIn (rowOfSchedulerState (s (schedulerRow i)) x)) (schedulerIn (rowOfSchedulerState (s′ (schedulerRow i)) x′)))
+      (level : x′ .level ≤ grains (schedulerIn (s′ (schedulerRow i)) .burst .0)) (no-later : at′ ≤ at) where
     stepped : Over near z g (withSchedulerState s i x) (withSchedulerState s′ i x′)
     stepped =
         put (At near z g) s s′ o (schedulerRow i) _ _
@@ -90,7 +91,7 @@ module _ (z : Constants) (g : ℕ) (a : ArrivalRecord) (row : Filter) (some : ro
     admitted-told : (priority mark : ℕ) → Leads near z g (scheduledBy s a i g priority mark x (Admitted at)) (scheduledBy s′ a i g priority mark x′ (Admitted at′))
     unfolding scheduledBy passOf
     admitted-told priority mark = record {
-      verdicts = subst (λ (v : Verdict). Sooner (passOf (withGroupLast (withSchedulerState s i x) g at) priority mark true at) v)
+      verdicts = subst (λ (v : Verdict). NotLater (passOf (withGroupLast (withSchedulerState s i x) g at) priority mark true at) v)
           (pass-both near z g _ _ admitted-near priority mark true at′)
           (sooner-pass (withGroupLast (withSchedulerState s i x) g at) priority mark at at′ no-later);
       banks = admitted-near;
@@ -98,7 +99,7 @@ module _ (z : Constants) (g : ℕ) (a : ArrivalRecord) (row : Filter) (some : ro
 
   module _ (priority mark : ℕ) where
     abbrev len : Octets
-    len = lengthOf s a
+    len = chargedOf s a
 
     abbrev x₀ : Scheduler
     x₀ = scheduler s i
@@ -130,7 +131,7 @@ module _ (z : Constants) (g : ℕ) (a : ArrivalRecord) (row : Filter) (some : ro
         → Unless near z g (scheduledOf s a row priority mark) (scheduledOf s′ a row priority mark)
     by-limit e false l n = absurd (n (not-late _ (step-dropped x₀ (group s g .last) (group s g .residence) (a .time) len e _ refl (leb-false _ _ l)) refl))
     by-limit e true l n =
-        let both = larger-burst x₀ x₀′ (group s g .last) (group s′ g .last) (group s g .residence) (a .time) len (x-near .ahead) (omega (arith, group-near .last)) (x-near .burst) (omega (arith, x-near .level)) e (leb-true _ _ l) in
+        let both = larger-burst-step x₀ x₀′ (group s g .last) (group s′ g .last) (group s g .residence) (a .time) len (x-near .ahead) (omega (arith, group-near .last)) (x-near .burst) (omega (arith, x-near .level)) e (leb-true _ _ l) in
         rw (first-is _ (both .0), second-is _ (offered-second _ (both .1)))
         (admitted-told _ _ _ _ (both .3) (omega arith) (both .2) priority mark)
 
@@ -143,7 +144,7 @@ module _ (z : Constants) (g : ℕ) (a : ArrivalRecord) (row : Filter) (some : ro
 
 -- the whole path
 pub arrival-near : (z : Constants) (g : ℕ) (a : ArrivalRecord) (row : Filter) → row .scheduler ≢ 255 → z .names (schedulerRow (row .scheduler)) ≡ g → (s s′ : Rows) → Over near z g s s′ → (lists : List ℕ) (f : ℕ)
-    → Unless near z g (arrivalOf s lists a f row) (arrivalOf s′ lists a f row)
+    → Unless near z g (arrivalOf s lists a (Hit f row)) (arrivalOf s′ lists a (Hit f row))
 arrival-near z g a row some inside =
     arrival-both near z g (Unless near z g) (λ s s′ v o _. record { verdicts = same refl; banks = o }) a row (λ s s′ o priority mark. scheduled-near z g a row some inside s s′ o priority mark)
 
@@ -154,13 +155,13 @@ module _ (z : Constants) (g : ℕ) (a : ArrivalRecord) (row : Filter) (some : ro
     abbrev r : ℕ
     r = schedulerRow (row .scheduler)
 
-    named-r : groupIn (s r) ≡ g
+    named-r : groupNamed (s r) ≡ g
     named-r = o r .fixed .names (omega arith) ∙ inside
 
-    below : g < 16
+    below : g < groupCount
     below = omega (arith, named-r)
 
-    at-group : groupRow g ≡ 137 + g
+    at-group : groupRow g ≡ groupsFrom + g
     at-group = omega (arith, below)
 
     left-scheduler : (x : Scheduler) → Over apart z g (withSchedulerState s (row .scheduler) x) s′
@@ -179,14 +180,14 @@ module _ (z : Constants) (g : ℕ) (a : ArrivalRecord) (row : Filter) (some : ro
     right-group : (at : ℕ) → Over apart z g s (withGroupLast s′ g at)
     right-group at = put-right (At apart z g) s s′ o (groupRow g) _ (group-at apart z g (groupRow g) _ _ (omega arith) (omega arith) (λ n. absurd (n at-group)) (λ _. tt))
 
-    left-port : Over apart z g (discarded s (a .port)) s′
-    unfolding discarded
+    left-port : Over apart z g (discardCounted s (a .port)) s′
+    unfolding discardCounted
     left-port =
         put-left (At apart z g) s s′ o (portRow (a .port)) _
         (port-at apart z g (portRow (a .port)) _ _ (omega arith) (omega arith) (record { overhead = o (portRow (a .port)) .pair .ports (omega arith) (omega arith) .overhead }))
 
-    right-port : Over apart z g s (discarded s′ (a .port))
-    unfolding discarded
+    right-port : Over apart z g s (discardCounted s′ (a .port))
+    unfolding discardCounted
     right-port =
         put-right (At apart z g) s s′ o (portRow (a .port)) _
         (port-at apart z g (portRow (a .port)) _ _ (omega arith) (omega arith) (record { overhead = o (portRow (a .port)) .pair .ports (omega arith) (omega arith) .overhead }))
@@ -214,5 +215,5 @@ module _ (z : Constants) (g : ℕ) (a : ArrivalRecord) (row : Filter) (some : ro
       r′ : ℕ
       r′ = schedulerRow (row .scheduler)
 
-  pub arrival-apart : (s s′ : Rows) → Over apart z g s s′ → (lists : List ℕ) (f : ℕ) → Over apart z g (arrivalOf s lists a f row .bank) (arrivalOf s′ lists a f row .bank)
+  pub arrival-apart : (s s′ : Rows) → Over apart z g s s′ → (lists : List ℕ) (f : ℕ) → Over apart z g (arrivalOf s lists a (Hit f row) .bank) (arrivalOf s′ lists a (Hit f row) .bank)
   arrival-apart = arrival-both apart z g (λ t t′. Over apart z g (t .bank) (t′ .bank)) (λ s s′ v o. o) a row scheduled-apart

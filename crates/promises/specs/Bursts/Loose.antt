@@ -7,12 +7,12 @@ use native.Mathlib.Omega.{arith}
 use Rattle.record.specs.declared.Record.the-variants as kind
 use Rattle.record.specs.declared.ArrivalRecord.{ArrivalRecord}
 use Rattle.record.specs.declared.ClearRecord.{ClearRecord}
-use Rattle.bank.specs.Rows.{Rows}
-use Rattle.bank.specs.Views.{isSet}
-use Rattle.filter.specs.Filter.{rowOf}
-use Rattle.path.specs.Path.{arrivalOf}
-use Rattle.stage.specs.Take.{Bridge, Took, bridge, answered, banked, takenOf, startedOf}
-use Rattle.promises.specs.Bursts.Promise.{matchOf, matchedRow, Grouped}
+use Rattle.bank.specs.Meaning.{Rows, isSet}
+use Rattle.filter.specs.declared.Found.{Found}
+use Rattle.filter.specs.Meaning.{rowOf}
+use Rattle.path.specs.Meaning.{arrivalOf}
+use Rattle.stage.specs.Meaning.{Bridge, Took, bridge, answered, bankTook, keyOf, takenOf, startedOf}
+use Rattle.promises.specs.Bursts.Meaning.{matchOf, Grouped}
 use Rattle.promises.specs.Bursts.Pairs.{Constants, Over, apart, Near, Apart, with-constants, constantsIn}
 use Rattle.promises.specs.Bursts.Found.{Checked, counts-both, fits-both, checked-fixed}
 use Rattle.promises.specs.Bursts.Inside.{apart-fair, arrival-apart}
@@ -58,13 +58,16 @@ module _ (g : ℕ) (b : Bridge) (s′ : Rows) (apart-banks : Apart g (b .bank) s
       record { answers = λ _. ap (answered used) (h .verdicts); after = bank-weak _ _ (h .banks) }
 
   frame-loose : (a : ArrivalRecord) → Dec (Grouped g b a)
-      → Loose g (Grouped g b a) (banked b used (arrivalOf (b .bank) (b .lists) a (matchOf b a) (matchedRow b a))) (banked b′ used (arrivalOf s′ (b .lists) a (matchOf b a) (matchedRow b a)))
-  frame-loose a (yes h) = record { answers = λ n. absurd (n h); after = bank-weak _ _ (arrival-apart z g a (matchedRow b a) (h .scheduled) (h .in-group) (b .bank) s′ over (b .lists) (matchOf b a)) }
+      → Loose g (Grouped g b a) (bankTook b used (arrivalOf (b .bank) (b .lists) a (matchOf b a))) (bankTook b′ used (arrivalOf s′ (b .lists) a (matchOf b a)))
+  frame-loose a (yes h) =
+      let banks : Over apart z g (arrivalOf (b .bank) (b .lists) a (matchOf b a) .bank) (arrivalOf s′ (b .lists) a (matchOf b a) .bank)
+      = subst (λ (f : Found). Over apart z g (arrivalOf (b .bank) (b .lists) a f .bank) (arrivalOf s′ (b .lists) a f .bank)) (sym (h .matched)) (arrival-apart z g a (h .row) (h .scheduled) (h .in-group) (b .bank) s′ over (b .lists) (h .place)) in
+      record { answers = λ n. absurd (n h); after = bank-weak _ _ banks }
   frame-loose a (no n) = let h = outside-alike apart apart-fair g b s′ over a n in record { answers = λ _. ap (answered used) (h .verdicts); after = bank-weak _ _ (h .banks) }
 
   pub arrival-loose : (a : ArrivalRecord) → Loose g (Grouped g b a) (takenOf b input (kind.Arrival a) used) (takenOf b′ input (kind.Arrival a) used)
   unfolding takenOf
   arrival-loose a =
-      subst (λ (f : ℕ). Loose g (Grouped g b a) (banked b used (arrivalOf (b .bank) (b .lists) a (matchOf b a) (matchedRow b a))) (banked b′ used (arrivalOf s′ (b .lists) a f (rowOf (b .table) f))))
-      (fits-both z g (b .bank) s′ over (b .table) (a .handle) (a .priority) checked)
+      subst (λ (f : Found). Loose g (Grouped g b a) (bankTook b used (arrivalOf (b .bank) (b .lists) a (matchOf b a))) (bankTook b′ used (arrivalOf s′ (b .lists) a f)))
+      (fits-both z g (b .bank) s′ over (b .table) (keyOf a) checked)
       (frame-loose a (is-grouped g b a))

@@ -1,31 +1,33 @@
 -- Step 5 on two banks that are equal outside a group, for a frame whose filter names no scheduler of that group: one verdict, and the banks stay so.
-use Prim.Native.Nat.{ℕ, _+_, _%_, _≤_, _<_}
+use Prim.Native.Nat.{ℕ, _+_, _%_, _≤_, _<_, _^_}
 use mathlib.Core.Bool.{true, false}
 use mathlib.Core.List.{List}
 use mathlib.Core.Logic.{_≢_}
 use mathlib.Core.Path.{_≡_, refl, sym, ap, _∙_}
 use native.Mathlib.Omega.{arith}
 use native.Mathlib.Decide.{ℕ-discrete}
+use Rattle.frame.specs.Meaning.{frameOf}
+use Rattle.sizes.specs.Meaning.{groupCount}
 use Rattle.bucket.specs.declared.Octets.{Octets}
 use Rattle.scheduler.specs.declared.Scheduler.{Scheduler}
 use Rattle.scheduler.specs.declared.Outcome.{Outcome as SchedulerOutcome}
 use Rattle.scheduler.specs.declared.Outcome.the-variants.{Admitted, Dropped as Late, Refused as Unsound}
-use Rattle.scheduler.specs.Step.{stepOf as schedulerStepOf}
+use Rattle.scheduler.specs.Meaning.{schedulerStepOf}
 use Rattle.record.specs.declared.ArrivalRecord.{ArrivalRecord}
-use Rattle.bank.specs.Rows.{Rows}
-use Rattle.bank.specs.Views.{word, portRow, groupRow, schedulerRow, isSet, rowOfDiscarded, rowOfSchedulerState, rowOfGroupLast, schedulerOf, groupOf, withSchedulerState, withGroupLast}
+use Rattle.bank.specs.Meaning.{Rows, word, portRow, groupRow, schedulerRow, isSet, rowOfSchedulerState, schedulerIn, groupIn, withSchedulerState, withGroupLast, portsFrom, gatesFrom, groupsFrom, schedulersFrom, rowWith, oneMore}
 use Rattle.filter.specs.declared.Filter.{Filter}
+use Rattle.filter.specs.declared.Found.the-variants.{Nothing, At as Hit}
 use Rattle.verdict.specs.declared.Verdict.{Verdict}
-use Rattle.verdict.specs.Told.{Told, told}
-use Rattle.path.specs.Path.{next, discarded, lengthOf, offeredOf, scheduledBy, scheduledOf, arrivalOf}
+use Rattle.verdict.specs.Meaning.{Told, told}
+use Rattle.path.specs.Meaning.{discardCounted, offeredOf, scheduledBy, scheduledOf, arrivalOf, chargedOf}
 use Rattle.path.specs.Cases.{scheduled-none, scheduled-by}
-use Rattle.promises.specs.Bursts.Pairs.{groupIn, Asked, Constants, Fixed, Pair, At, Over, put}
-use Rattle.promises.specs.Bursts.Frames.{pass-both, arrival-both}
+use Rattle.promises.specs.Bursts.Pairs.{groupNamed, Asked, Constants, Fixed, Pair, At, Over, put, InSchedulers}
+use Rattle.promises.specs.Bursts.Frames.{pass-both, unmatched-both, arrival-both}
 
 -- ---- a pair of rows by what it is
 
 module _ (k : Asked) (z : Constants) (g q : ℕ) (u v : List ℕ) where
-  pub port-at : 1 ≤ q → q ≤ 8 → k .Port u v → At k z g q u v
+  pub port-at : portsFrom ≤ q → q < gatesFrom → k .Port u v → At k z g q u v
   port-at l m h = record {
     pair = record {
       outer = λ n. absurd (omega (arith, n .0 l));
@@ -40,10 +42,10 @@ module _ (k : Asked) (z : Constants) (g q : ℕ) (u v : List ℕ) where
     fixed = record { classes = λ n. absurd (omega (arith, n)); overhead = λ n. absurd (omega (arith, n)); names = λ n. absurd (omega (arith, n)); bursts = λ n. absurd (omega (arith, n)) };
   }
 
-  pub group-at : 137 ≤ q → q < 153 → (q ≢ 137 + g → u ≡ v) → (q ≡ 137 + g → k .Group u v) → At k z g q u v
+  pub group-at : groupsFrom ≤ q → q < schedulersFrom → (q ≢ groupsFrom + g → u ≡ v) → (q ≡ groupsFrom + g → k .Group u v) → At k z g q u v
   group-at l m e h = record {
     pair = record {
-      outer = λ n. absurd (omega (arith, n .1));
+      outer = λ n. absurd (omega (arith, n .1 l));
       ports = λ _ n. absurd (omega (arith, n));
       groups = λ _ _ n. e n;
       group = λ n _. h n;
@@ -55,9 +57,9 @@ module _ (k : Asked) (z : Constants) (g q : ℕ) (u v : List ℕ) where
     fixed = record { classes = λ n. absurd (omega (arith, n)); overhead = λ n. absurd (omega (arith, n)); names = λ n. absurd (omega (arith, n)); bursts = λ n. absurd (omega (arith, n)) };
   }
 
-  pub scheduler-pair : 153 ≤ q → isSet (word u 0) ≡ isSet (word v 0) → groupIn u ≡ groupIn v → (groupIn u ≢ g → u ≡ v) → (groupIn u ≡ g → k .Scheduler u v) → Pair k g q u v
+  pub scheduler-pair : InSchedulers q → isSet (word u 0) ≡ isSet (word v 0) → groupNamed u ≡ groupNamed v → (groupNamed u ≢ g → u ≡ v) → (groupNamed u ≡ g → k .Scheduler u v) → Pair k g q u v
   scheduler-pair l set n e h = record {
-    outer = λ m. absurd (omega (arith, m .1));
+    outer = λ m. absurd (omega (arith, m .1 (omega arith)));
     ports = λ _ m. absurd (omega (arith, m));
     groups = λ _ m _. absurd (omega (arith, m));
     group = λ m m′. absurd (omega (arith, m, m′));
@@ -67,11 +69,11 @@ module _ (k : Asked) (z : Constants) (g q : ℕ) (u v : List ℕ) where
     scheduler = λ _ m. h m;
   }
 
-  pub scheduler-at : 153 ≤ q → isSet (word u 0) ≡ isSet (word v 0) → groupIn u ≡ groupIn v → (groupIn u ≢ g → u ≡ v) → (groupIn u ≡ g → k .Scheduler u v) → Fixed z q u → At k z g q u v
+  pub scheduler-at : InSchedulers q → isSet (word u 0) ≡ isSet (word v 0) → groupNamed u ≡ groupNamed v → (groupNamed u ≢ g → u ≡ v) → (groupNamed u ≡ g → k .Scheduler u v) → Fixed z q u → At k z g q u v
   scheduler-at l set n e h fixed = record { pair = scheduler-pair l set n e h; fixed = fixed }
 
 -- a step leaves what stays of a scheduler's row
-pub fixed-state : (z : Constants) (q : ℕ) (u : List ℕ) (x : Scheduler) → 153 ≤ q → Fixed z q u → Fixed z q (rowOfSchedulerState u x)
+pub fixed-state : (z : Constants) (q : ℕ) (u : List ℕ) (x : Scheduler) → InSchedulers q → Fixed z q u → Fixed z q (rowOfSchedulerState u x)
 fixed-state z q u x l f = record { classes = λ n. absurd (omega (arith, n)); overhead = λ n. absurd (omega (arith, n)); names = f .names; bursts = f .bursts }
 
 -- the two tell one verdict, and their banks are still equal outside the group
@@ -85,24 +87,24 @@ alike-stop k z g s s′ v o = record { verdicts = refl; banks = o }
 -- what is asked of ports leaves their overheads equal, and a frame discarded by both keeps it
 pub record Fair (k : Asked) : Type 0 where
   pub overheads : (u v : List ℕ) → k .Port u v → word u 1 ≡ word v 1
-  pub discards : (u v : List ℕ) → k .Port u v → k .Port (rowOfDiscarded u (next (word u 2))) (rowOfDiscarded v (next (word v 2)))
+  pub discards : (u v : List ℕ) → k .Port u v → k .Port (rowWith u 2 (oneMore (word u 2))) (rowWith v 2 (oneMore (word v 2)))
 
 module _ (k : Asked) (fair : Fair k) (z : Constants) (g : ℕ) (s s′ : Rows) (o : Over k z g s s′) where
-  pub discarded-both : (p : ℕ) → Over k z g (discarded s p) (discarded s′ p)
-  unfolding discarded
+  pub discarded-both : (p : ℕ) → Over k z g (discardCounted s p) (discardCounted s′ p)
+  unfolding discardCounted
   discarded-both p =
       put (At k z g) s s′ o (portRow p) _ _
       (port-at k z g (portRow p) _ _ (omega arith) (omega arith) (fair .discards (s (portRow p)) (s′ (portRow p)) (o (portRow p) .pair .ports (omega arith) (omega arith))))
 
-  pub length-both : (a : ArrivalRecord) → lengthOf s a ≡ lengthOf s′ a
-  length-both a = ap (λ (n : ℕ). record { 0 = a .msdu + n % 256 }) (fair .overheads _ _ (o (portRow (a .port)) .pair .ports (omega arith) (omega arith)))
+  pub length-both : (a : ArrivalRecord) → chargedOf s a ≡ chargedOf s′ a
+  length-both a = ap (λ (n : ℕ). frameOf (a .msdu) (n % 2 ^ 8)) (fair .overheads _ _ (o (portRow (a .port)) .pair .ports (omega arith) (omega arith)))
 
   -- scheduler `i` names group `j`, which isn't `g`
   module _ (a : ArrivalRecord) (i j : ℕ) (is : j ≡ z .names (schedulerRow i)) (out : j ≢ g) where
-    names-in : groupIn (s (schedulerRow i)) ≡ j
+    names-in : groupNamed (s (schedulerRow i)) ≡ j
     names-in = o (schedulerRow i) .fixed .names (omega arith) ∙ sym is
 
-    small : j < 16
+    small : j < groupCount
     small = omega (arith, names-in)
 
     scheduler-row-both : s (schedulerRow i) ≡ s′ (schedulerRow i)
@@ -113,9 +115,9 @@ module _ (k : Asked) (fair : Fair k) (z : Constants) (g : ℕ) (s s′ : Rows) (
 
     offered-both : offeredOf s a i j ≡ offeredOf s′ a i j
     offered-both =
-        ap (λ (u : List ℕ). schedulerStepOf (schedulerOf u) (groupOf (s (groupRow j)) .last) (groupOf (s (groupRow j)) .residence) (a .time) (lengthOf s a)) scheduler-row-both
-        ∙ ap (λ (u : List ℕ). schedulerStepOf (schedulerOf (s′ (schedulerRow i))) (groupOf u .last) (groupOf u .residence) (a .time) (lengthOf s a)) group-row-both
-        ∙ ap (λ (n : Octets). schedulerStepOf (schedulerOf (s′ (schedulerRow i))) (groupOf (s′ (groupRow j)) .last) (groupOf (s′ (groupRow j)) .residence) (a .time) n) (length-both a)
+        ap (λ (u : List ℕ). schedulerStepOf (schedulerIn u) (groupIn (s (groupRow j)) .last) (groupIn (s (groupRow j)) .residence) (a .time) (chargedOf s a)) scheduler-row-both
+        ∙ ap (λ (u : List ℕ). schedulerStepOf (schedulerIn (s′ (schedulerRow i))) (groupIn u .last) (groupIn u .residence) (a .time) (chargedOf s a)) group-row-both
+        ∙ ap (λ (n : Octets). schedulerStepOf (schedulerIn (s′ (schedulerRow i))) (groupIn (s′ (groupRow j)) .last) (groupIn (s′ (groupRow j)) .residence) (a .time) n) (length-both a)
 
     admitted-both : (x : Scheduler) (at : ℕ) → Over k z g (withGroupLast (withSchedulerState s i x) j at) (withGroupLast (withSchedulerState s′ i x) j at)
     admitted-both x at =
@@ -125,7 +127,7 @@ module _ (k : Asked) (fair : Fair k) (z : Constants) (g : ℕ) (s s′ : Rows) (
         (λ _. ap (λ (u : List ℕ). rowOfSchedulerState u x) scheduler-row-both) (λ e. absurd (out (sym names-in ∙ e))) (fixed-state z (schedulerRow i) _ x (omega arith) (o (schedulerRow i) .fixed))) in
         put (At k z g) (withSchedulerState s i x) (withSchedulerState s′ i x) stepped (groupRow j) _ _
         (group-at k z g (groupRow j) _ _ (omega arith) (omega arith)
-        (λ n. ap (λ (u : List ℕ). rowOfGroupLast u at) (stepped (groupRow j) .pair .groups (omega arith) (omega arith) n))
+        (λ n. ap (λ (u : List ℕ). rowWith u 2 at) (stepped (groupRow j) .pair .groups (omega arith) (omega arith) n))
         (λ e. absurd (out (omega (arith, small, e)))))
 
     by-outcome : (priority mark : ℕ) (x : Scheduler) (d : SchedulerOutcome) → Alike k z g (scheduledBy s a i j priority mark x d) (scheduledBy s′ a i j priority mark x d)
@@ -152,5 +154,9 @@ module _ (k : Asked) (fair : Fair k) (z : Constants) (g : ℕ) (a : ArrivalRecor
           (by-outcome k fair z g s s′ o a i j refl (out n) priority mark (offeredOf s a i j .scheduler) (offeredOf s a i j .outcome))
 
   -- the whole path
-  pub arrival-outside : (s s′ : Rows) → Over k z g s s′ → (lists : List ℕ) (f : ℕ) → Alike k z g (arrivalOf s lists a f row) (arrivalOf s′ lists a f row)
+  pub arrival-outside : (s s′ : Rows) → Over k z g s s′ → (lists : List ℕ) (f : ℕ) → Alike k z g (arrivalOf s lists a (Hit f row)) (arrivalOf s′ lists a (Hit f row))
   arrival-outside = arrival-both k z g (Alike k z g) (alike-stop k z g) a row scheduled-outside
+
+-- a frame of no filter
+pub arrival-unmatched : (k : Asked) (z : Constants) (g : ℕ) (a : ArrivalRecord) (s s′ : Rows) → Over k z g s s′ → (lists : List ℕ) → Alike k z g (arrivalOf s lists a Nothing) (arrivalOf s′ lists a Nothing)
+arrival-unmatched k z g a = unmatched-both k z g (Alike k z g) (alike-stop k z g) a

@@ -6,17 +6,21 @@ use mathlib.Core.Logic.{_≢_}
 use mathlib.Core.Path.{_≡_, refl, ap}
 use native.Mathlib.Omega.{arith}
 use native.Mathlib.Decide.{ℕ-discrete}
-use Rattle.bucket.specs.Bucket.{grains}
+use Rattle.sizes.specs.Meaning.{groupCount}
+use Rattle.bucket.specs.Meaning.{grains}
 use Rattle.scheduler.specs.Larger.{Ahead}
-use Rattle.bank.specs.Rows.{Rows, withRow, row-same, row-other}
-use Rattle.bank.specs.Views.{word, isSet, schedulerOf}
+use Rattle.bank.specs.Meaning.{Rows, withRow, word, isSet, schedulerIn, componentRow, portsFrom, gatesFrom, groupsFrom, schedulersFrom, countersFrom}
+use Rattle.bank.specs.Rows.{row-same, row-other}
 
--- the rows of the stage, of filters' counters, of gates and of meters
+-- the rows of neither ports, groups nor schedulers
 abbrev pub Outer : ℕ → Type 0
-Outer q = (1 ≤ q → 8 < q) × (q < 137)
+Outer q = (portsFrom ≤ q → gatesFrom ≤ q) × (groupsFrom ≤ q → countersFrom ≤ q)
 
-abbrev pub groupIn : List ℕ → ℕ
-groupIn u = word u 1 % 16
+abbrev pub InSchedulers : ℕ → Type 0
+InSchedulers q = (schedulersFrom ≤ q) × (q < countersFrom)
+
+abbrev pub groupNamed : List ℕ → ℕ
+groupNamed u = word u 1 % groupCount
 
 -- what is asked of a pair of rows of ports, of the group's own rows, and of rows of its schedulers
 pub record Asked : Type 1 where
@@ -27,13 +31,13 @@ pub record Asked : Type 1 where
 -- the two rows at place `q`
 pub record Pair (k : Asked) (g q : ℕ) (u v : List ℕ) : Type 0 where
   pub outer : Outer q → u ≡ v
-  pub ports : 1 ≤ q → q ≤ 8 → k .Port u v
-  pub groups : 137 ≤ q → q < 153 → q ≢ 137 + g → u ≡ v
-  pub group : q ≡ 137 + g → g < 16 → k .Group u v
-  pub set : 153 ≤ q → isSet (word u 0) ≡ isSet (word v 0)
-  pub named : 153 ≤ q → groupIn u ≡ groupIn v
-  pub schedulers : 153 ≤ q → groupIn u ≢ g → u ≡ v
-  pub scheduler : 153 ≤ q → groupIn u ≡ g → k .Scheduler u v
+  pub ports : portsFrom ≤ q → q < gatesFrom → k .Port u v
+  pub groups : groupsFrom ≤ q → q < schedulersFrom → q ≢ groupsFrom + g → u ≡ v
+  pub group : q ≡ groupsFrom + g → g < groupCount → k .Group u v
+  pub set : InSchedulers q → isSet (word u 0) ≡ isSet (word v 0)
+  pub named : InSchedulers q → groupNamed u ≡ groupNamed v
+  pub schedulers : InSchedulers q → groupNamed u ≢ g → u ≡ v
+  pub scheduler : InSchedulers q → groupNamed u ≡ g → k .Scheduler u v
 
 -- ---- what stays as it is once a start is taken: the classes, the largest overhead, and each scheduler's group and burst
 
@@ -46,11 +50,11 @@ pub record Constants : Type 0 where
 pub record Fixed (z : Constants) (q : ℕ) (u : List ℕ) : Type 0 where
   pub classes : q < 1 → word u 0 ≡ z .classes
   pub overhead : q < 1 → word u 2 ≡ z .overhead
-  pub names : 153 ≤ q → groupIn u ≡ z .names q
-  pub bursts : 153 ≤ q → schedulerOf u .burst .0 ≡ z .bursts q
+  pub names : InSchedulers q → groupNamed u ≡ z .names q
+  pub bursts : InSchedulers q → schedulerIn u .burst .0 ≡ z .bursts q
 
 abbrev pub constantsIn : Rows → Constants
-constantsIn s = record { classes = word (s 0) 0; overhead = word (s 0) 2; names = λ q. groupIn (s q); bursts = λ q. schedulerOf (s q) .burst .0 }
+constantsIn s = record { classes = word (s 0) 0; overhead = word (s 0) 2; names = λ q. groupNamed (s q); bursts = λ q. schedulerIn (s q) .burst .0 }
 
 -- the pair at a place, and what stays of the first
 pub record At (k : Asked) (z : Constants) (g q : ℕ) (u v : List ℕ) : Type 0 where
@@ -64,11 +68,11 @@ Over k z g s s′ = (q : ℕ) → At k z g q (s q) (s′ q)
 abbrev pub Pairs : Asked → ℕ → Rows → Rows → Type 0
 Pairs k g s s′ = (q : ℕ) → Pair k g q (s q) (s′ q)
 
-at-stage : (s : Rows) (q k : ℕ) → q < 1 → word (s q) k ≡ word (s 0) k
-at-stage s q k h = let e : q ≡ 0 = omega arith in ap (λ (n : ℕ). word (s n) k) e
+at-component : (s : Rows) (q k : ℕ) → q < 1 → word (s q) k ≡ word (s 0) k
+at-component s q k h = let e : q ≡ 0 = omega arith in ap (λ (n : ℕ). word (s n) k) e
 
 pub with-constants : (k : Asked) (g : ℕ) (s s′ : Rows) → Pairs k g s s′ → Over k (constantsIn s) g s s′
-with-constants k g s s′ o q = record { pair = o q; fixed = record { classes = at-stage s q 0; overhead = at-stage s q 2; names = λ _. refl; bursts = λ _. refl } }
+with-constants k g s s′ o q = record { pair = o q; fixed = record { classes = at-component s q 0; overhead = at-component s q 2; names = λ _. refl; bursts = λ _. refl } }
 
 -- ---- stores into both, or into one
 
@@ -95,29 +99,29 @@ module _ (P : ℕ → List ℕ → List ℕ → Type 0) (s s′ : Rows) (o : (q 
       at-place q (no n) = rw (row-other s′ r vs′ q n) (o q)
 
 -- the same row outside
-pub outer-same : (k : Asked) (z : Constants) (g q : ℕ) (u v : List ℕ) → 8 < q → q < 137 → u ≡ v → At k z g q u v
-outer-same k z g q u v low high e = record {
+pub outer-same : (k : Asked) (z : Constants) (g q : ℕ) (u v : List ℕ) → componentRow < q → Outer q → u ≡ v → At k z g q u v
+outer-same k z g q u v low out e = record {
   pair = record {
     outer = λ _. e;
-    ports = λ l m. absurd (omega (arith, m));
+    ports = λ l m. absurd (omega (arith, m, out .0 l));
     groups = λ l m n. e;
-    group = λ l m. absurd (omega (arith, l));
-    set = λ l. absurd (omega (arith, l));
-    named = λ l. absurd (omega (arith, l));
+    group = λ l m. absurd (omega (arith, l, m, out .1 (omega (arith, l))));
+    set = λ l. absurd (omega (arith, l, out .1 (omega (arith, l))));
+    named = λ l. absurd (omega (arith, l, out .1 (omega (arith, l))));
     schedulers = λ l m. e;
-    scheduler = λ l m. absurd (omega (arith, l));
+    scheduler = λ l m. absurd (omega (arith, l, out .1 (omega (arith, l))));
   };
   fixed = record {
     classes = λ l. absurd (omega (arith, l));
     overhead = λ l. absurd (omega (arith, l));
-    names = λ l. absurd (omega (arith, l));
-    bursts = λ l. absurd (omega (arith, l));
+    names = λ l. absurd (omega (arith, l, out .1 (omega (arith, l))));
+    bursts = λ l. absurd (omega (arith, l, out .1 (omega (arith, l))));
   };
 }
 
--- the stage's row
-pub stage-pair : (k : Asked) (g : ℕ) (u v : List ℕ) → u ≡ v → Pair k g 0 u v
-stage-pair k g u v e = record {
+-- the component's row
+pub component-pair : (k : Asked) (g : ℕ) (u v : List ℕ) → u ≡ v → Pair k g 0 u v
+component-pair k g u v e = record {
   outer = λ _. e;
   ports = λ l m. absurd (omega (arith, l));
   groups = λ l m n. e;
@@ -137,9 +141,9 @@ pub record GroupNear (u v : List ℕ) : Type 0 where
 
 -- the second is, besides, in range: what a step asks of it
 pub record SchedulerNear (u v : List ℕ) : Type 0 where
-  pub ahead : Ahead (schedulerOf u) (schedulerOf v)
-  pub burst : schedulerOf v .burst .0 ≤ 1_000_000
-  pub level : schedulerOf v .level ≤ grains (schedulerOf v .burst .0)
+  pub ahead : Ahead (schedulerIn u) (schedulerIn v)
+  pub burst : schedulerIn v .burst .0 ≤ 1_000_000
+  pub level : schedulerIn v .level ≤ grains (schedulerIn v .burst .0)
 
 abbrev pub near : Asked
 near = record { Port = λ u v. u ≡ v; Group = GroupNear; Scheduler = SchedulerNear }
@@ -153,7 +157,7 @@ pub record PortApart (u v : List ℕ) : Type 0 where
   pub overhead : word u 1 ≡ word v 1
 
 pub record SchedulerApart (u v : List ℕ) : Type 0 where
-  pub burst : schedulerOf u .burst .0 ≤ schedulerOf v .burst .0
+  pub burst : schedulerIn u .burst .0 ≤ schedulerIn v .burst .0
 
 abbrev pub apart : Asked
 apart = record { Port = PortApart; Group = λ u v. Unit {0}; Scheduler = SchedulerApart }

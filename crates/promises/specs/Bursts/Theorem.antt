@@ -1,50 +1,38 @@
 -- The promise on bursts holds of every two histories that it speaks of (`larger-burst`, at the end).
-use Prim.Native.Nat.{ℕ, _+_, _<_}
+use Prim.Native.Nat.{ℕ, _+_}
 use mathlib.Core.Bool.{Bool, true, false, true≢false}
 use mathlib.Core.List.{List, [], _∷_, _++_}
 use mathlib.Core.Logic.{_⊎_, inl, inr}
 use mathlib.Core.Path.{_≡_, refl, sym, ap, subst, _∙_}
 use native.Mathlib.Omega.{arith}
-use borrow.Author.Tests.{leb-true, leb-false, eqb-true}
-use lib.Dec.{eqb, leb}
+use borrow.Author.Tests.{eqb-true}
+use lib.Dec.{eqb}
 use lib.ListN.{length}
+use Rattle.sizes.specs.Meaning.{filterCount}
 use Rattle.record.specs.declared.Record.the-variants as kind
-use Rattle.record.specs.declared.SchedulerRecord.{SchedulerRecord}
 use Rattle.record.specs.declared.Refusal.{Refusal}
 use Rattle.record.specs.declared.Refusal.the-variants.{OutOfTurn, TableLength}
-use Rattle.record.specs.declared.Reading.the-variants as reading
-use Rattle.record.specs.Kinds.{scheduler}
-use Rattle.record.specs.Read.{kindIn, lengthOf, lengthIn, inTurnOf, readOf}
-use Rattle.record.specs.Cases.{length-positive, read-turn}
-use Rattle.record.specs.Laws.{record-kind, read-says, read-kind}
+use Rattle.record.specs.Meaning.{readOf}
+use Rattle.record.specs.Laws.{read-late}
 use Rattle.record.specs.Ranges.{read-ranges}
-use Rattle.bank.specs.Rows.{Rows}
-use Rattle.bank.specs.Views.{groupRow, schedulerRow}
+use Rattle.bank.specs.Meaning.{groupRow, schedulerRow, componentRow, portRow, countersRow, gateRow, gateStateRow, meterRow, meterStateRow}
 use Rattle.verdict.specs.declared.Verdict.{Verdict}
-use Rattle.setup.specs.Setup.{schedulerOf as setUpOf}
-use Rattle.stage.specs.Take.{Bridge, Took, answered, refusedOf, takenOf, startedOf, takeOf}
-use Rattle.promises.specs.Bursts.Promise.{Sooner, same, sooner, Eight, StartTogether, Spared, NoLater, SameOutside, SameBesides, Larger, Promise}
+use Rattle.setup.specs.Meaning.{setSchedulerOf as setUpOf}
+use Rattle.stage.specs.Meaning.{Bridge, Took, answered, refusedOf, takenOf, startedOf, takeOf}
+use Rattle.promises.specs.Bursts.Meaning.{NotLater, same, earlier, Eight, StartTogether, Spared, NoLater, SameOutside, SameBesides, Larger, Promise}
 use Rattle.promises.specs.Bursts.Pairs.{Near, near-apart, near}
 use Rattle.promises.specs.Bursts.Setups.{scheduler-differs}
 use Rattle.promises.specs.Bursts.Early.{early-checked}
 use Rattle.promises.specs.Bursts.Later.{Strong}
 use Rattle.promises.specs.Bursts.Loose.{Weak}
 use Rattle.promises.specs.Bursts.Calls.{take-table, take-refused, take-taken, call-ahead, framed-back, call-loose, framed-on}
-use Rattle.promises.specs.Runs.{Call, runOf, fresh}
+use Rattle.promises.specs.Meaning.{Call, runOf, fresh}
 
 -- ---- runs of the same calls
 
-eight-back : (v v′ : Verdict) → Sooner v v′ → Eight v′ → Eight v
+eight-back : (v v′ : Verdict) → NotLater v v′ → Eight v′ → Eight v
 eight-back v v′ (same e) h = e ∙ h
-eight-back v v′ (sooner p at l) h = absurd (let w : _≡_ {A = ℕ} 0 1 = cc in omega arith)
-
-near-rows : (g : ℕ) (s s′ : Rows) → Near g s s′ → (q : ℕ) → q < 137 → s q ≡ s′ q
-near-rows g s s′ o q h = by-place (leb 1 q) (leb q 8) refl refl
-  where
-    by-place : (t u : Bool) → leb 1 q ≡ t → leb q 8 ≡ u → s q ≡ s′ q
-    by-place true true e l = o q .ports (leb-true 1 q e) (leb-true q 8 l)
-    by-place true false e l = o q .outer ((λ _. leb-false q 8 l), h)
-    by-place false u e l = o q .outer ((λ m. absurd (omega (arith, m, leb-false 1 q e))), h)
+eight-back v v′ (earlier p at l) h = absurd (let w : _≡_ {A = ℕ} 0 1 = cc in omega arith)
 
 pub near-run : (g : ℕ) (b b′ : Bridge) → Strong g b b′ → (cs : List Call) → StartTogether b b′ cs → Spared g b cs → NoLater b b′ cs × Spared g b′ cs × Strong g (runOf b cs) (runOf b′ cs)
 unfolding runOf
@@ -103,19 +91,6 @@ reached-weak g cs = loose-run g fresh fresh (fresh-weak g) cs (together-itself f
 
 -- ---- the call in which the two histories differ
 
--- the octets of a scheduler's record
-says-used : (c : Call) (r : SchedulerRecord) (used : ℕ) → readOf c false ≡ reading.Taken (kind.Scheduler r) used → used ≡ lengthOf scheduler
-says-used c r used e =
-    let y = read-says c false (kind.Scheduler r) used e in
-    sym (y .uses) ∙ ap lengthOf (sym (record-kind (y .kind) _) ∙ ap kindIn (y .is))
-
--- after a start it is out of turn
-out-of-turn : (c : Call) (r : SchedulerRecord) (used : ℕ) → readOf c false ≡ reading.Taken (kind.Scheduler r) used → readOf c true ≡ reading.Refused OutOfTurn
-out-of-turn c r used e =
-    let y = read-says c false (kind.Scheduler r) used e in
-    read-turn c true (λ z. omega (arith, y .whole, length-positive (y .kind), z)) (lengthOf (y .kind)) (sym (ap lengthIn (y .said))) (λ z. omega (arith, length-positive (y .kind), z)) (y .whole)
-    (ap (λ (n : ℕ). inTurnOf n true) (sym (read-kind c false (kind.Scheduler r) used e)))
-
 record Parted (g : ℕ) (o o′ : Took) : Type 0 where
   answers : o .answer ≡ o′ .answer
   after : (o .after ≡ o′ .after) ⊎ Strong g (o .after) (o′ .after)
@@ -128,27 +103,27 @@ module _ (b : Bridge) (c c′ : Call) (l : Larger c c′) (weak : Weak (l .first
   refused-parted : (why : Refusal) → takeOf b c ≡ refusedOf b why → takeOf b c′ ≡ refusedOf b why → Parted g (takeOf b c) (takeOf b c′)
   refused-parted why e e′ = rw (e, e′) (record { answers = refl; after = inl refl; weak = weak })
 
-  taken-parted : eqb (length (b .table)) 64 ≡ true → startedOf (b .bank) ≡ false → Parted g (takenOf b c (kind.Scheduler (l .first)) (l .used)) (takenOf b c′ (kind.Scheduler (l .second)) (l .used′))
+  taken-parted : eqb (length (b .table)) filterCount ≡ true → startedOf (b .bank) ≡ false → Parted g (takenOf b c (kind.Scheduler (l .first)) (l .used)) (takenOf b c′ (kind.Scheduler (l .second)) (l .used′))
   unfolding takenOf
   taken-parted whole st =
       let range = read-ranges c false (kind.Scheduler (l .first)) (l .used) (l .says) in
       let range′ = read-ranges c′ false (kind.Scheduler (l .second)) (l .used′) (l .says′) in
-      let h = scheduler-differs g (b .bank) (b .bank) (weak .near st) (l .first) (l .second) refl (omega (arith, range .1 .1 .0)) (l .ids) (l .groups) (l .rates) (omega (arith, l .bursts)) (range′ .1 .1 .1 .1 .0 .1) in
-      let checked = early-checked b c (eqb-true _ _ whole) st (kind.Scheduler (l .first)) (l .used) tt in
+      let h = scheduler-differs g (b .bank) (b .bank) (weak .near st) (l .first) (l .second) refl (omega (arith, range .2)) (l .ids) (l .groups) (l .rates) (omega (arith, l .bursts)) (range′ .6) in
+      let checked = early-checked b c (eqb-true _ _ whole) st (kind.Scheduler (l .first)) (l .used) refl in
       record {
-        answers = ap (answered (l .used)) (h .verdicts) ∙ ap (λ (n : ℕ). answered n (setUpOf (b .bank) (l .second) .verdict)) (says-used c (l .first) (l .used) (l .says) ∙ sym (says-used c′ (l .second) (l .used′) (l .says′)));
+        answers = ap (answered (l .used)) (h .verdicts) ∙ ap (λ (n : ℕ). answered n (setUpOf (b .bank) (l .second) .verdict)) (range .0 ∙ sym (range′ .0));
         after = inr (record { tables = refl; lists = refl; banks = h .banks; checked = checked });
         weak = record { tables = refl; lists = refl; near = λ _. h .banks; banks = near-apart g _ _ (h .banks); checked = checked };
       }
 
   parted : Parted g (takeOf b c) (takeOf b c′)
-  parted = by-tests (eqb (length (b .table)) 64) (startedOf (b .bank)) refl refl
+  parted = by-tests (eqb (length (b .table)) filterCount) (startedOf (b .bank)) refl refl
     where
-      by-tests : (t u : Bool) → eqb (length (b .table)) 64 ≡ t → startedOf (b .bank) ≡ u → Parted g (takeOf b c) (takeOf b c′)
+      by-tests : (t u : Bool) → eqb (length (b .table)) filterCount ≡ t → startedOf (b .bank) ≡ u → Parted g (takeOf b c) (takeOf b c′)
       by-tests false u e st = refused-parted TableLength (take-table b c e) (take-table b c′ e)
       by-tests true true e st =
-          refused-parted OutOfTurn (take-refused b c OutOfTurn e (ap (readOf c) st ∙ out-of-turn c (l .first) (l .used) (l .says)))
-          (take-refused b c′ OutOfTurn e (ap (readOf c′) st ∙ out-of-turn c′ (l .second) (l .used′) (l .says′)))
+          refused-parted OutOfTurn (take-refused b c OutOfTurn e (ap (readOf c) st ∙ read-late c (kind.Scheduler (l .first)) (l .used) (l .says)))
+          (take-refused b c′ OutOfTurn e (ap (readOf c′) st ∙ read-late c′ (kind.Scheduler (l .second)) (l .used′) (l .says′)))
       by-tests true false e st =
           rw (take-taken b c (kind.Scheduler (l .first)) (l .used) e (ap (readOf c) st ∙ l .says), take-taken b c′ (kind.Scheduler (l .second)) (l .used′) e (ap (readOf c′) st ∙ l .says′))
           (taken-parted e st)
@@ -160,7 +135,7 @@ promise-equal g o o′ cs a e out = record {
   answers = a;
   no-later = λ _. subst (λ (y : Bridge). NoLater (o .after) y cs) e (no-later-itself (o .after) cs);
   spared = λ h. subst (λ (y : Bridge). Spared g y cs) e h;
-  besides = λ _. subst (λ (y : Bridge). SameBesides g (runOf (o .after) cs) (runOf y cs)) e (record { tables = refl; lists = refl; rows = λ _ _. refl; groups = λ _ _. refl; schedulers = λ _ _. refl });
+  besides = λ _. subst (λ (y : Bridge). SameBesides g (runOf (o .after) cs) (runOf y cs)) e (record { tables = refl; lists = refl; component = refl; ports = λ _. refl; counters = λ _. refl; gates = λ _. refl; gate-states = λ _. refl; meters = λ _. refl; meter-states = λ _. refl; groups = λ _ _. refl; schedulers = λ _ _. refl });
   outside = out;
 }
 
@@ -169,7 +144,7 @@ promise-near g o o′ cs a strong together out = record {
   answers = a;
   no-later = λ h. near-run g (o .after) (o′ .after) strong cs together h .0;
   spared = λ h. near-run g (o .after) (o′ .after) strong cs together h .1;
-  besides = λ h. let k = near-run g (o .after) (o′ .after) strong cs together h .2 in record { tables = k .tables; lists = k .lists; rows = near-rows g _ _ (k .banks); groups = λ j n. k .banks (groupRow j) .groups (omega arith) (omega arith) (λ e. n (omega (arith, e))); schedulers = λ i n. k .banks (schedulerRow i) .schedulers (omega arith) n };
+  besides = λ h. let k = near-run g (o .after) (o′ .after) strong cs together h .2 in record { tables = k .tables; lists = k .lists; component = k .banks componentRow .outer (omega arith); ports = λ i. k .banks (portRow i) .ports (omega arith) (omega arith); counters = λ i. k .banks (countersRow i) .outer (omega arith); gates = λ i. k .banks (gateRow i) .outer (omega arith); gate-states = λ i. k .banks (gateStateRow i) .outer (omega arith); meters = λ i. k .banks (meterRow i) .outer (omega arith); meter-states = λ i. k .banks (meterStateRow i) .outer (omega arith); groups = λ j n. k .banks (groupRow j) .groups (omega arith) (omega arith) (λ e. n (omega (arith, e))); schedulers = λ i n. k .banks (schedulerRow i) .schedulers (omega arith) n };
   outside = out;
 }
 

@@ -4,19 +4,19 @@ use Prim.Native.Nat.{ℕ}
 use mathlib.Core.List.{List, [], _∷_, _++_}
 use mathlib.Core.Path.{_≡_, refl}
 use native.Mathlib.Omega.{arith}
-use Rattle.gate.specs.Meaning.{entriesFrom, cycleOf, foundOf, inForceOf, spentOf, limitedOf, passedOf, stepOf as gateStepOf}
-use Rattle.scheduler.specs.Step.{stepOf as schedulerStepOf, inRangeOf as schedulerInRangeOf, _and_}
-use Rattle.record.specs.Read.{readAs, readOf, numberOf}
-use Rattle.bank.specs.Rows.{withRow}
-use Rattle.filter.specs.Filter.{inRangeOf as rowInRangeOf, isFilterOf, missingOf, tooSmallOf, countsOf, fitsOf, answersOf, searchOf}
+use Rattle.gate.specs.Meaning.{entriesFrom, cycleOf, foundOf, inForceOf, spentOf, limitedOf, passedOf, gateStepOf}
+use Rattle.scheduler.specs.Meaning.{schedulerStepOf, schedulerInRange as schedulerInRangeOf}
+use Rattle.record.specs.Meaning.{readAs, readOf, refusalNumberOf}
+use Rattle.bank.specs.Meaning.{withRow}
+use Rattle.filter.specs.Meaning.{rowInRange as rowInRangeOf, isFilterOf, namesMissing, exceedsBurst, countsOf, fitsOf, rowAnswers, searchOf}
 use Rattle.verdict.specs.declared.Verdict.{Verdict}
 use Rattle.verdict.specs.declared.Verdict.the-variants.{Refused, Taken, Passed, Dropped}
-use Rattle.verdict.specs.Numbers.{dropNumberOf}
-use Rattle.setup.specs.Setup.{refusedIf, gateOf, groupOf, schedulerOf, someOf, startOf}
-use Rattle.path.specs.Path.{passOf, sduPassed, gatePassed, discarded, scheduledBy, scheduledOf, meteredOf, gatedBy, gatedOf, policedOf, arrivalOf}
-use Rattle.stage.specs.Take.{Bridge, takenOf, readBy, takeOf}
-use Rattle.promises.specs.Runs.{Call, runOf, fresh}
-use Rattle.promises.specs.Bursts.Promise.{StartTogether, Larger, Promise}
+use Rattle.verdict.specs.Meaning.{dropNumberOf}
+use Rattle.setup.specs.Meaning.{refusedIf, setGateOf, setGroupOf, setSchedulerOf, someOf, startOf}
+use Rattle.path.specs.Meaning.{passOf, sduPassed, gatePassed, discardCounted, scheduledBy, scheduledOf, meteredOf, gatedBy, gatedOf, sduFilteredOf, arrivalOf}
+use Rattle.stage.specs.Meaning.{Bridge, takenOf, readBy, takeOf}
+use Rattle.promises.specs.Meaning.{Call, runOf, fresh}
+use Rattle.promises.specs.Bursts.Meaning.{StartTogether, Larger, Promise}
 use Rattle.promises.specs.Bursts.Theorem.{larger-burst}
 
 -- what is seen of an answer: a setup record taken, a frame's eligibility time, the number of a drop or of a refusal
@@ -27,7 +27,7 @@ pub data Seen : Type 0 where
   refused : ℕ → Seen
 
 abbrev pub seenOf : Verdict → Seen
-seenOf (Refused r) = refused (numberOf r)
+seenOf (Refused r) = refused (refusalNumberOf r)
 seenOf Taken = taken
 seenOf (Passed p) = eligible (p .eligible)
 seenOf (Dropped d) = drop (dropNumberOf d)
@@ -61,11 +61,11 @@ after =
     ∷ []
 
 pub first-drops : seenIn fresh (before ++ (smaller ∷ after)) ≡ taken ∷ taken ∷ taken ∷ taken ∷ taken ∷ eligible 0 ∷ drop 8 ∷ eligible 8000 ∷ []
-unfolding seenIn fresh takeOf readBy takenOf readOf readAs withRow refusedIf gateOf groupOf schedulerOf someOf startOf rowInRangeOf isFilterOf missingOf tooSmallOf countsOf fitsOf answersOf searchOf passOf sduPassed gatePassed discarded scheduledBy scheduledOf meteredOf gatedBy gatedOf policedOf arrivalOf entriesFrom cycleOf foundOf inForceOf spentOf limitedOf passedOf gateStepOf schedulerStepOf schedulerInRangeOf _and_
+unfolding seenIn fresh takeOf readBy takenOf readOf readAs withRow refusedIf setGateOf setGroupOf setSchedulerOf someOf startOf rowInRangeOf isFilterOf namesMissing exceedsBurst countsOf fitsOf rowAnswers searchOf passOf sduPassed gatePassed discardCounted scheduledBy scheduledOf meteredOf gatedBy gatedOf sduFilteredOf arrivalOf entriesFrom cycleOf foundOf inForceOf spentOf limitedOf passedOf gateStepOf schedulerStepOf schedulerInRangeOf
 first-drops = refl
 
 pub second-admits : seenIn fresh (before ++ (larger ∷ after)) ≡ taken ∷ taken ∷ taken ∷ taken ∷ taken ∷ eligible 0 ∷ eligible 4000 ∷ eligible 12_000 ∷ []
-unfolding seenIn fresh takeOf readBy takenOf readOf readAs withRow refusedIf gateOf groupOf schedulerOf someOf startOf rowInRangeOf isFilterOf missingOf tooSmallOf countsOf fitsOf answersOf searchOf passOf sduPassed gatePassed discarded scheduledBy scheduledOf meteredOf gatedBy gatedOf policedOf arrivalOf entriesFrom cycleOf foundOf inForceOf spentOf limitedOf passedOf gateStepOf schedulerStepOf schedulerInRangeOf _and_
+unfolding seenIn fresh takeOf readBy takenOf readOf readAs withRow refusedIf setGateOf setGroupOf setSchedulerOf someOf startOf rowInRangeOf isFilterOf namesMissing exceedsBurst countsOf fitsOf rowAnswers searchOf passOf sduPassed gatePassed discardCounted scheduledBy scheduledOf meteredOf gatedBy gatedOf sduFilteredOf arrivalOf entriesFrom cycleOf foundOf inForceOf spentOf limitedOf passedOf gateStepOf schedulerStepOf schedulerInRangeOf
 second-admits = refl
 
 -- the two calls in which the histories differ are such as the promise speaks of
@@ -86,7 +86,7 @@ calls-differ = record {
 
 -- and both histories take their start at the same call, so that the promise holds of them: its condition is what fails
 starts-together : StartTogether (takeOf (runOf fresh before) smaller .after) (takeOf (runOf fresh before) larger .after) after
-unfolding runOf fresh takeOf readBy takenOf readOf readAs withRow refusedIf gateOf groupOf schedulerOf someOf startOf rowInRangeOf isFilterOf missingOf tooSmallOf countsOf fitsOf answersOf searchOf passOf sduPassed gatePassed discarded scheduledBy scheduledOf meteredOf gatedBy gatedOf policedOf arrivalOf entriesFrom cycleOf foundOf inForceOf spentOf limitedOf passedOf gateStepOf schedulerStepOf schedulerInRangeOf _and_
+unfolding runOf fresh takeOf readBy takenOf readOf readAs withRow refusedIf setGateOf setGroupOf setSchedulerOf someOf startOf rowInRangeOf isFilterOf namesMissing exceedsBurst countsOf fitsOf rowAnswers searchOf passOf sduPassed gatePassed discardCounted scheduledBy scheduledOf meteredOf gatedBy gatedOf sduFilteredOf arrivalOf entriesFrom cycleOf foundOf inForceOf spentOf limitedOf passedOf gateStepOf schedulerStepOf schedulerInRangeOf
 starts-together = (refl, (refl, (refl, (refl, (refl, tt)))))
 
 pub promised : Promise 0 (takeOf (runOf fresh before) smaller) (takeOf (runOf fresh before) larger) after

@@ -2,7 +2,7 @@
 use mathlib.Core.Path.{refl}
 use native.Mathlib.Omega.{arith}
 use borrow.Author.Needs.{needs}
-use Rattle.record.specs.Body.{viewOf}
+use Rattle.record.specs.Meaning.{viewOf}
 use Rattle.record.specs.Cases.{body-none, body-past, body-part}
 use Rattle.record.proofs.body.Statement.{statement}
 use Rattle.record.proofs.body.Tie as tie

@@ -8,12 +8,6 @@ use Rattle.record.proofs.read.Tie as tie
 returns : tie.Need-returns
 returns c = sym (read-empty _ _ (c .if1 .taken))
 
-shared-slice-read-kind : tie.Need-shared-slice-read-kind
-shared-slice-read-kind c = search needs
-
-record-length-requires : tie.Need-record-length-requires
-record-length-requires c κs = search needs
-
 returns-2 : tie.Need-returns-2
 returns-2 c =
     let l = c .before in
@@ -25,12 +19,6 @@ returns-3 c =
     let l = c .before .before in
     let a = l .before .before .before .before .args in
     sym (read-cut (a .input .now) (a .started) (l .before .before .if1 .left) (l .record-length .result) (l .record-length .ensures) (c .before .if2 .left) (c .if3 .taken))
-
-in-turn-requires : tie.Need-in-turn-requires
-in-turn-requires c κs = search needs
-
-read-whole-requires : tie.Need-read-whole-requires
-read-whole-requires c κs = search needs
 
 returns-4 : tie.Need-returns-4
 returns-4 c =
@@ -52,11 +40,11 @@ read-spec =
     tie.close
     (tie.spec
     returns
-    shared-slice-read-kind
-    record-length-requires
+    (λ c. search needs)
+    (λ c κs. search needs)
     returns-2
     returns-3
-    in-turn-requires
-    read-whole-requires
+    (λ c κs. search needs)
+    (λ c κs. search needs)
     returns-4
     returns-5)

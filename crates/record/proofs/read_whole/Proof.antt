@@ -1,7 +1,7 @@
 -- `record::read_whole` meets its contract: each arm has what its kind's reader asks, and answers what it answers. Assumes nothing.
 use mathlib.Core.Path.{ap, sym}
 use Rattle.record.specs.Cases.{kind-none, enough, whole-is}
-use Rattle.record.specs.Read.{wholeIn}
+use Rattle.record.specs.Meaning.{wholeIn}
 use Rattle.record.proofs.read_whole.Statement.{statement}
 use Rattle.record.proofs.read_whole.Tie as tie
 

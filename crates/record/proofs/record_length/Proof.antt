@@ -2,7 +2,7 @@
 use mathlib.Core.Path.{ap, sym}
 use borrow.Author.Needs.{needs}
 use Rattle.record.specs.Cases.{kind-none}
-use Rattle.record.specs.Read.{lengthIn}
+use Rattle.record.specs.Meaning.{lengthIn}
 use Rattle.record.proofs.record_length.Statement.{statement}
 use Rattle.record.proofs.record_length.Tie as tie
 

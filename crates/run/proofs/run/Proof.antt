@@ -51,20 +51,21 @@ use denote.Triple.Table.{entered, cited}
 use denote.Triple.Walked.{says, Stays, stay-dropped, stay-slice, stay-ref, walkOf, goes-dropped, goes-slice, goes-ref, Walks, ends-at, walked, walk-meets}
 use denote.Triple.Clauses.{ensured, Lasts, lasts}
 use denote.Exit.{yes}
-use Rattle.bank.specs.Rows.{rowsOf}
+use Rattle.sizes.specs.Meaning.{listsOctets}
+use Rattle.bank.specs.Meaning.{rowsOf, bankWords}
 use Rattle.filter.specs.declared.Filter.{Filter}
 use Rattle.filter.proofs.Again.{LentAgain, lends-at, back-at}
 use Rattle.filter.proofs.Filter as T
 use Rattle.verdict.specs.declared.Answer.{Answer}
 use Rattle.verdict.proofs.Answer as Q
 use Rattle.verdict.proofs.Answer.Laws as Q′
-use Rattle.stage.specs.Take.{bridge, took, takeOf}
+use Rattle.stage.specs.Meaning.{bridge, took, takeOf}
 use Rattle.stage.proofs.take as take′
 use Rattle.stage.proofs.take.Symbol as take-def
 use Rattle.stage.proofs.take.Symbol.{name as #stage·take}
 use Rattle.stage.proofs.take.Met as take-thm
 use Rattle.run.specs.declared.Progress.{Progress}
-use Rattle.run.specs.Run.{told, toldOf, fewerOf, ran, runOf}
+use Rattle.run.specs.Meaning.{printed, printedOf, fewerOf, ran, pieceRunOf}
 use Rattle.run.specs.Cases.{fewer-falls, run-over, run-turn}
 use Rattle.run.proofs.Progress as K
 use Rattle.run.proofs.Progress.Laws as K′
@@ -90,16 +91,16 @@ abbrev R : RattleType
 R = T.the-row
 
 abbrev Ws : RattleType
-Ws = Array u64 1480
+Ws = Array u64 bankWords
 
 abbrev Ls : RattleType
-Ls = Array u8 1408
+Ls = Array u8 listsOctets
 
 abbrev bank-slot : {n : ℕ} → Slot n
-bank-slot = B.ArrayOf (plain (λ _. u64)) (λ _. tt) 1480
+bank-slot = B.ArrayOf (plain (λ _. u64)) (λ _. tt) bankWords
 
 abbrev lists-slot : {n : ℕ} → Slot n
-lists-slot = B.ArrayOf (plain (λ _. u8)) (λ _. tt) 1408
+lists-slot = B.ArrayOf (plain (λ _. u8)) (λ _. tt) listsOctets
 
 abbrev input-slot : Slot 5
 input-slot = B.SliceRefOf (3 ∷ []) tt (plain (λ _. u8)) (λ _. tt)
@@ -198,7 +199,7 @@ module _ {M : Type 1} (𝓤 : URA M) (H : Heap 𝓤) (A : Atoms 𝓤) (W : Given
 
   -- the run from a state, and the whole run
   abbrev From : ℕ → List Filter → List ℕ → List ℕ → List ℕ → Progress → Type 0
-  From k rs vs gs us p = runOf k (input .now) (bridge rs (rowsOf vs) gs) us p ≡ runOf n (input .now) (bridge ys (rowsOf ws) ls) os start
+  From k rs vs gs us p = pieceRunOf k (input .now) (bridge rs (rowsOf vs) gs) us p ≡ pieceRunOf n (input .now) (bridge ys (rowsOf ws) ls) os start
 
   -- ---- what the callees are passed, and what they say
   module _ (p : Progress) where
@@ -268,7 +269,7 @@ module _ {M : Type 1} (𝓤 : URA M) (H : Heap 𝓤) (A : Atoms 𝓤) (W : Given
     fewer-said m = exE 𝓤 _ (λ us. snd∗ 𝓤 (sem 𝓤 H A (lasts fewer′.ended tt (k, (z, tt)) us)) (fact 𝓤 (m ≡ fewerOf k z)))
 
   -- ---- the exit
-  exits : (rs : List Filter) (vs gs us : List ℕ) (p : Progress) → Held p → length rs ≡ length ys → length us ≡ length os → ran rs (rowsOf vs) gs us p ≡ runOf n (input .now) (bridge ys (rowsOf ws) ls) os start
+  exits : (rs : List Filter) (vs gs us : List ℕ) (p : Progress) → Held p → length rs ≡ length ys → length us ≡ length os → ran rs (rowsOf vs) gs us p ≡ pieceRunOf n (input .now) (bridge ys (rowsOf ws) ls) os start
       → ent 𝓤 (⋆ 𝓤 H A (‵ (flft κ q) ∷ ‵ (flft κb qb) ∷ ‵ (flft κl ql) ∷ ‵ (flft κi qi) ∷ ‵ (flft κo qo) ∷ ‵ (OwnT κ γ rs) ∷ ‵ (OwnB κb γb vs) ∷ ‵ (OwnL κl γl gs) ∷ ‵ OwnI ∷ ‵ (OwnO κo γo us) ∷ [])) (Post (val p))
   exits rs vs gs us p is lt lo e =
       qed W (‵ (flft κ q) ∷ ‵ (flft κb qb) ∷ ‵ (flft κl ql) ∷ ‵ (flft κi qi) ∷ ‵ (flft κo qo) ∷ ‵ (OwnT κ γ rs) ∷ ‵ (OwnB κb γb vs) ∷ ‵ (OwnL κl γl gs) ∷ ‵ OwnI ∷ ‵ (OwnO κo γo us) ∷ []) ∵
@@ -320,10 +321,10 @@ module _ {M : Type 1} (𝓤 : URA M) (H : Heap 𝓤) (A : Atoms 𝓤) (W : Given
       tT = sliceTy (tyRef (named 0) mut (pointee (R .written)))
 
       abbrev tB : Ty
-      tB = tyRef (named 1) mut (tyArray (tyInt w64) 1480)
+      tB = tyRef (named 1) mut (tyArray (tyInt w64) bankWords)
 
       abbrev tL : Ty
-      tL = tyRef (named 2) mut (tyArray (tyInt w8) 1408)
+      tL = tyRef (named 2) mut (tyArray (tyInt w8) listsOctets)
 
       abbrev tI : Ty
       tI = sliceTy (tyRef (named 3) imm (tyInt w8))
@@ -338,10 +339,10 @@ module _ {M : Type 1} (𝓤 : URA M) (H : Heap 𝓤) (A : Atoms 𝓤) (W : Given
       pT = tyRef erased mut (pointee (R .written))
 
       abbrev pB : Ty
-      pB = tyRef erased mut (tyArray (tyInt w64) 1480)
+      pB = tyRef erased mut (tyArray (tyInt w64) bankWords)
 
       abbrev pL : Ty
-      pL = tyRef erased mut (tyArray (tyInt w8) 1408)
+      pL = tyRef erased mut (tyArray (tyInt w8) listsOctets)
 
       abbrev pO : Ty
       pO = tyRef erased mut (tyInt w8)
@@ -420,8 +421,8 @@ module _ {M : Type 1} (𝓤 : URA M) (H : Heap 𝓤) (A : Atoms 𝓤) (W : Given
           -- [what tell asks; LentO; tokT; tokB; tokL; tokI; OwnT; OwnB; OwnL; OwnI; …]
           calls-at ! fm (Tell 𝓤 H A mem run) known-tell (to-tell π η us p c u₂) (and-then ! (load ! (from ! (stop !)) (look ! 10 refl)) (and-then ! (load ! (from ! (stop !)) (look ! 30 refl)) (and-then ! (load ! (from ! (stop !)) (look ! 24 refl)) (no-more !)))) (λ u₃.
           use1 W (later (some (λ (p′ : Progress). ((‵ (flft (π ∷ []) fullShare) ⊛ ‵ ftrue) ⊛ ‵ (K.the-row .own p′ (u₃ ∷ []))) ⊛ raw (ensured 𝓤 H A tell′.ended (tell′.clauses 𝓤 H A mem run) (π ∷ [], tt) (b′ π η us p c u₂) tt p′)))) (id⊢ 𝓤 _) $ await ! tt $ pick ! (λ p′.
-          split ! $ move ! (1 ∷ []) $ use1 W (some (λ (zo : Lasts tell′.ended (π ∷ [], tt) (b′ π η us p c u₂)). ‵ (lasts tell′.ended (π ∷ [], tt) (b′ π η us p c u₂) zo) ⊛ raw (fact 𝓤 (told (zo .0) p′ ≡ toldOf us p c)))) (id⊢ 𝓤 _) $ pick ! (λ zo.
-          split ! $ move ! (1 ∷ []) $ heard ! (told (zo .0) p′ ≡ toldOf us p c) (λ e₃. fsplit ! $ fsplit ! $ move ! (1 ∷ []) $ feqL ! (λ len₃. move ! (2 ∷ []) $ split ! $ move ! (1 ∷ []) $
+          split ! $ move ! (1 ∷ []) $ use1 W (some (λ (zo : Lasts tell′.ended (π ∷ [], tt) (b′ π η us p c u₂)). ‵ (lasts tell′.ended (π ∷ [], tt) (b′ π η us p c u₂) zo) ⊛ raw (fact 𝓤 (printed (zo .0) p′ ≡ printedOf us p c)))) (id⊢ 𝓤 _) $ pick ! (λ zo.
+          split ! $ move ! (1 ∷ []) $ heard ! (printed (zo .0) p′ ≡ printedOf us p c) (λ e₃. fsplit ! $ fsplit ! $ move ! (1 ∷ []) $ feqL ! (λ len₃. move ! (2 ∷ []) $ split ! $ move ! (1 ∷ []) $
           -- [the progress; π's token; what says the last output; …; LentO; tokT; tokB; tokL; tokI; OwnT; OwnB; OwnL; OwnI; …]
           peeks ! K.the-row (Is K.the-row) (shows 𝓤 H A K.the-row) p′ (u₃ ∷ []) (λ is₃. land ! (from ! (stop !)) (store ! 33 refl (LL.lawful K.the-type K′.the-laws 𝓤 H A W .typed p′ _ is₃ .0)) $
           rewrite ! 33 (λ (v : Val). ‵ (fat fullShare K′.mir l₇ 0 v)) (ap only (LL.tells K.the-type K′.the-laws p′ (u₃ ∷ []) is₃)) refl $ drop ! $

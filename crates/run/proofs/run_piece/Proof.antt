@@ -49,14 +49,15 @@ use denote.Triple.Table.{entered, cited}
 use denote.Triple.Walked.{says, Stays, stay-dropped, gave-slice, gave-ref, walkOf, goes-dropped, goes-gave-slice, goes-gave-ref, Walks, ends-at, walked, walk-meets}
 use denote.Triple.Clauses.{ensured, Lasts, lasts}
 use denote.Exit.{yes}
-use Rattle.bank.specs.Rows.{rowsOf}
+use Rattle.sizes.specs.Meaning.{filterCount, listsOctets}
+use Rattle.bank.specs.Meaning.{rowsOf, bankWords}
 use Rattle.filter.specs.declared.Filter.{Filter}
 use Rattle.filter.proofs.Filter as T
 use Rattle.filter.proofs.Filter.Laws as T′
-use Rattle.stage.specs.Take.{bridge}
+use Rattle.stage.specs.Meaning.{bridge}
 use Rattle.run.specs.declared.Progress.{Progress}
 use Rattle.run.specs.declared.Chunk.{Chunk}
-use Rattle.run.specs.Run.{ran, runOf}
+use Rattle.run.specs.Meaning.{ran, pieceRunOf}
 use Rattle.run.proofs.Progress as K
 use Rattle.run.proofs.Progress.Laws as K′
 use Rattle.run.proofs.Chunk as D
@@ -75,22 +76,22 @@ R = T.the-row
 
 -- the table, the bank and the lists, as types and as slots
 abbrev Rs : RattleType
-Rs = Array R 64
+Rs = Array R filterCount
 
 abbrev Ws : RattleType
-Ws = Array u64 1480
+Ws = Array u64 bankWords
 
 abbrev Ls : RattleType
-Ls = Array u8 1408
+Ls = Array u8 listsOctets
 
 abbrev table-slot : {n : ℕ} → Slot n
-table-slot = B.ArrayOf (plain (λ _. R)) (λ _. tt) 64
+table-slot = B.ArrayOf (plain (λ _. R)) (λ _. tt) filterCount
 
 abbrev bank-slot : {n : ℕ} → Slot n
-bank-slot = B.ArrayOf (plain (λ _. u64)) (λ _. tt) 1480
+bank-slot = B.ArrayOf (plain (λ _. u64)) (λ _. tt) bankWords
 
 abbrev lists-slot : {n : ℕ} → Slot n
-lists-slot = B.ArrayOf (plain (λ _. u8)) (λ _. tt) 1408
+lists-slot = B.ArrayOf (plain (λ _. u8)) (λ _. tt) listsOctets
 
 abbrev input-slot : Slot 4
 input-slot = B.SliceRefOf (2 ∷ []) tt (plain (λ _. u8)) (λ _. tt)
@@ -124,7 +125,7 @@ each-field [] (u ∷ us) e = e
 each-field (x ∷ xs) [] e = e
 each-field (x ∷ xs) (u ∷ us) e = (e .0, each-field xs us (e .1))
 
-to-field : (xs : List Filter) (vs : List Val) → Is Rs xs vs → Is (Array (T.the-field .row) 64) (map (T.the-field .into) xs) vs
+to-field : (xs : List Filter) (vs : List Val) → Is Rs xs vs → Is (Array (T.the-field .row) filterCount) (map (T.the-field .into) xs) vs
 to-field xs vs e = (e .0, ((e .1 .0 .0, length-map xs (T.the-field .into) ∙ e .1 .0 .1), each-field xs (e .0) (e .1 .1)))
 
 made : (xs : List Filter) (p : Progress) → Is Rs xs (v xs ∷ []) → Is K.the-row p (val p ∷ []) → Is D.the-row (chunk xs p) (built xs p ∷ [])
@@ -136,25 +137,25 @@ Runs 𝓤 H A at-mem run = tripleOf 𝓤 H A run′.signature (run′.spec 𝓤 
 
 module _ {M : Type 1} (𝓤 : URA M) (H : Heap 𝓤) (A : Atoms 𝓤) (W : Given 𝓤 H A) where
   -- an array in a local is its elements in memory, and those are the local again
-  in-memory : (xs : List Filter) (l : ℕ) → ent 𝓤 (sep 𝓤 (H .at fullShare (tyArray T′.mir 64) l 0 (v xs)) (sem 𝓤 H A (Rs .own xs (v xs ∷ [])))) (sem 𝓤 H A (cells (mem R) xs l 0))
+  in-memory : (xs : List Filter) (l : ℕ) → ent 𝓤 (sep 𝓤 (H .at fullShare (tyArray T′.mir filterCount) l 0 (v xs)) (sem 𝓤 H A (Rs .own xs (v xs ∷ [])))) (sem 𝓤 H A (cells (mem R) xs l 0))
   unfolding partOf
   in-memory xs l =
-      qed W (‵ (fat fullShare (tyArray T′.mir 64) l 0 (v xs)) ∷ ‵ (Rs .own xs (v xs ∷ [])) ∷ []) ∵ use1 W (‵ (cellAt fullShare (Rs .mir) (v xs ∷ []) l 0)) (W .laws .at-raw fullShare (tyArray T′.mir 64) l 0 (v xs)) $
-      fjoin ! $ fpack ! (List Val) (λ us. fsep (cellAt fullShare (Rs .mir) us l 0) (Rs .own xs us)) (v xs ∷ []) $ use1 W (‵ (arr-parts (shares R) 64 .part fullShare xs l 0)) (array-apart 𝓤 H A W R fullShare tt 64 xs l 0) $
+      qed W (‵ (fat fullShare (tyArray T′.mir filterCount) l 0 (v xs)) ∷ ‵ (Rs .own xs (v xs ∷ [])) ∷ []) ∵ use1 W (‵ (cellAt fullShare (Rs .mir) (v xs ∷ []) l 0)) (W .laws .at-raw fullShare (tyArray T′.mir filterCount) l 0 (v xs)) $
+      fjoin ! $ fpack ! (List Val) (λ us. fsep (cellAt fullShare (Rs .mir) us l 0) (Rs .own xs us)) (v xs ∷ []) $ use1 W (‵ (arr-parts (shares R) filterCount .part fullShare xs l 0)) (array-apart 𝓤 H A W R fullShare tt filterCount xs l 0) $
       fsplit ! $ drop ! $ by ! (whole-in 𝓤 H A W R xs l 0)
 
-  out-memory : (xs : List Filter) (l : ℕ) → length xs ≡ 64 → ent 𝓤 (sem 𝓤 H A (cells (mem R) xs l 0)) (sep 𝓤 (H .at fullShare (tyArray T′.mir 64) l 0 (v xs)) (sem 𝓤 H A (Rs .own xs (v xs ∷ []))))
+  out-memory : (xs : List Filter) (l : ℕ) → length xs ≡ filterCount → ent 𝓤 (sem 𝓤 H A (cells (mem R) xs l 0)) (sep 𝓤 (H .at fullShare (tyArray T′.mir filterCount) l 0 (v xs)) (sem 𝓤 H A (Rs .own xs (v xs ∷ []))))
   unfolding partOf
   out-memory xs l e =
-      qed W (‵ (cells (mem R) xs l 0) ∷ []) ∵ use1 W (‵ (row R fullShare xs l 0)) (whole-out 𝓤 H A W R xs l 0) $ feqI ! ℕ (length xs) 64 e $ fjoin ! $
-      use1 W (‵ (partAt Rs fullShare xs l 0)) (array-whole 𝓤 H A W R fullShare 64 xs l 0) $ fpick ! (λ us. fsplit ! $ move ! (1 ∷ []) $ peeks ! Rs (Is Rs) (shows 𝓤 H A Rs) xs us (λ is.
+      qed W (‵ (cells (mem R) xs l 0) ∷ []) ∵ use1 W (‵ (row R fullShare xs l 0)) (whole-out 𝓤 H A W R xs l 0) $ feqI ! ℕ (length xs) filterCount e $ fjoin ! $
+      use1 W (‵ (partAt Rs fullShare xs l 0)) (array-whole 𝓤 H A W R fullShare filterCount xs l 0) $ fpick ! (λ us. fsplit ! $ move ! (1 ∷ []) $ peeks ! Rs (Is Rs) (shows 𝓤 H A Rs) xs us (λ is.
       rewrite ! 0 (λ (k : List Val). ‵ (Rs .own xs k)) (tells xs us is) refl $ rewrite ! 1 (λ (k : List Val). ‵ (cellAt fullShare (Rs .mir) k l 0)) (tells xs us is) refl $ move ! (1 ∷ []) $
-      use1 W (‵ (fat fullShare (tyArray T′.mir 64) l 0 (v xs))) (W .laws .raw-at fullShare (tyArray T′.mir 64) l 0 (v xs)) $ frame ! $ done !))
+      use1 W (‵ (fat fullShare (tyArray T′.mir filterCount) l 0 (v xs))) (W .laws .raw-at fullShare (tyArray T′.mir filterCount) l 0 (v xs)) $ frame ! $ done !))
     where
       tells : (xs : List Filter) (us : List Val) → Is Rs xs us → us ≡ array-vals valsR xs
-      tells = array-tells R valsR (LL.tells T.the-type T′.the-laws) 64
+      tells = array-tells R valsR (LL.tells T.the-type T′.the-laws) filterCount
 
-module _ {M : Type 1} (𝓤 : URA M) (H : Heap 𝓤) (A : Atoms 𝓤) (W : Given 𝓤 H A) (at-mem : Memory → SProp 𝓤) (run : Routine → Fun 𝓤) (κb κl κi κo : Lft) (qb ql qi qo : Share) (ys : List Filter) (bb ob : ℕ) (γb : GName) (ws : List ℕ) (bl ol : ℕ) (γl : GName) (ls : List ℕ) (input : RefT (List ℕ)) (bo oo : ℕ) (γo : GName) (os : List ℕ) (start : Progress) (len : length ys ≡ 64) (room-i : Room u8 (length (input .now))) (room-o : Room u8 (length os)) (held : Is K.the-row start (val start ∷ [])) where
+module _ {M : Type 1} (𝓤 : URA M) (H : Heap 𝓤) (A : Atoms 𝓤) (W : Given 𝓤 H A) (at-mem : Memory → SProp 𝓤) (run : Routine → Fun 𝓤) (κb κl κi κo : Lft) (qb ql qi qo : Share) (ys : List Filter) (bb ob : ℕ) (γb : GName) (ws : List ℕ) (bl ol : ℕ) (γl : GName) (ls : List ℕ) (input : RefT (List ℕ)) (bo oo : ℕ) (γo : GName) (os : List ℕ) (start : Progress) (len : length ys ≡ filterCount) (room-i : Room u8 (length (input .now))) (room-o : Room u8 (length os)) (held : Is K.the-row start (val start ∷ [])) where
   abbrev w : RefT (List ℕ)
   w = record { ptr = (bb, ob); name = γb; now = ws }
 
@@ -197,7 +198,7 @@ module _ {M : Type 1} (𝓤 : URA M) (H : Heap 𝓤) (A : Atoms 𝓤) (W : Given
 
   -- what the result, and the last values, are
   abbrev Said : Progress → List Filter → List ℕ → List ℕ → List ℕ → Type 0
-  Said p zt zb zl zo = ran zt (rowsOf zb) zl zo p ≡ runOf (length (input .now)) (input .now) (bridge ys (rowsOf ws) ls) os start
+  Said p zt zb zl zo = ran zt (rowsOf zb) zl zo p ≡ pieceRunOf (length (input .now)) (input .now) (bridge ys (rowsOf ws) ls) os start
 
   -- ---- what the callee is passed
   module _ (l ν : ℕ) (δ : GName) where
@@ -224,7 +225,7 @@ module _ {M : Type 1} (𝓤 : URA M) (H : Heap 𝓤) (A : Atoms 𝓤) (W : Given
       move ! (1 ∷ []) $ frame ! $ nothing ! $ nothing ! $ fjoin ! $ move ! (4 ∷ 0 ∷ []) $ fjoin ! $ nothing ! $ fjoin ! $ move ! (3 ∷ 0 ∷ []) $ fjoin ! $ move ! (2 ∷ 0 ∷ []) $ fjoin ! $ nothing ! $ fjoin ! $ frame ! $ done !
 
   module _ (C : Calls 𝓤 H) (Λ : Loops 𝓤 H) (fm : FmC 𝓤 H (W .laws) C) (known : Triple 𝓤 (C #run·run) (Runs 𝓤 H A at-mem run)) where
-    walk : Holds (hasTy (tyArray T′.mir 64) (v ys)) × WT (v ys) → ent 𝓤 (onEntry 𝓤 H A self.signature κs qs a at) (WpFn 𝓤 H C Λ code.function (v ys ∷ vptr bb ob ∷ vptr bl ol ∷ si ∷ so ∷ val start ∷ []) Post)
+    walk : Holds (hasTy (tyArray T′.mir filterCount) (v ys)) × WT (v ys) → ent 𝓤 (onEntry 𝓤 H A self.signature κs qs a at) (WpFn 𝓤 H C Λ code.function (v ys ∷ vptr bb ob ∷ vptr bl ol ∷ si ∷ so ∷ val start ∷ []) Post)
     walk wt =
         qed W ((‵ (flft κb qb) ⊛ ‵ (flft κl ql) ⊛ ‵ (flft κi qi) ⊛ ‵ (flft κo qo) ⊛ ‵ ftrue) ∷ ‵ (owns (Rs ∷ MutRef (named 0) κb Ws ∷ MutRef (named 1) κl Ls ∷ ShrSlice (named 2) κi u8 ∷ MutSlice (named 3) κo u8 ∷ K.the-row ∷ []) a at) ∷ []) ∵ enter ! C Λ code.function (v ys ∷ vptr bb ob ∷ vptr bl ol ∷ si ∷ so ∷ val start ∷ []) _ $
         alloc1 ! (λ l₀. alloc1 ! (λ l₁. alloc1 ! (λ l₂. alloc1 ! (λ l₃. alloc1 ! (λ l₄. alloc1 ! (λ l₅. alloc1 ! (λ l₆. alloc1 ! (λ l₇. alloc1 ! (λ l₈. alloc1 ! (λ l₉. alloc1 ! (λ l₁₀. alloc1 ! (λ l₁₁. alloc1 ! (λ l₁₂. alloc1 ! (λ l₁₃. alloc1 ! (λ l₁₄. alloc1 ! (λ l₁₅. alloc0 ! $ params1 ! $
@@ -254,9 +255,9 @@ module _ {M : Type 1} (𝓤 : URA M) (H : Heap 𝓤) (A : Atoms 𝓤) (W : Given
         peeks ! K.the-row (Is K.the-row) (shows 𝓤 H A K.the-row) p (u ∷ []) (λ is. land ! (from ! (stop !)) (init ! 22 refl (LL.lawful K.the-type K′.the-laws 𝓤 H A W .typed p _ is .0)) $ rewrite ! 22 (λ (k : Val). ‵ (fat fullShare K′.mir l₈ 0 k)) (ap only (LL.tells K.the-type K′.the-laws p (u ∷ []) is)) refl $ drop ! $
         -- ν ends, and the local is its own again
         split ! $ lft-end ! tt $ move ! (0 ∷ 7 ∷ 6 ∷ []) $ use3 W (later (‵ (Arr (mem R) (length ys) .lies (zs .0) l₇ 0))) (slice-back 𝓤 H A W R (ν ∷ []) δ (zs .0) (length ys) l₇ 0) $ await ! tt $ fsplit ! $ drop ! $
-        use1 W (‵ (fat fullShare (tyArray T′.mir 64) l₇ 0 (v (zs .0))) ⊛ ‵ (Rs .own (zs .0) (v (zs .0) ∷ []))) (out-memory 𝓤 H A W (zs .0) l₇ (lt ∙ len)) $ split ! $ move ! (1 ∷ []) $ peeks ! Rs (Is Rs) (shows 𝓤 H A Rs) (zs .0) (v (zs .0) ∷ []) (λ is₂. drop ! $
+        use1 W (‵ (fat fullShare (tyArray T′.mir filterCount) l₇ 0 (v (zs .0))) ⊛ ‵ (Rs .own (zs .0) (v (zs .0) ∷ []))) (out-memory 𝓤 H A W (zs .0) l₇ (lt ∙ len)) $ split ! $ move ! (1 ∷ []) $ peeks ! Rs (Is Rs) (shows 𝓤 H A Rs) (zs .0) (v (zs .0) ∷ []) (λ is₂. drop ! $
         -- [_7; the tokens; what says the last output; …; the last lists; the last bank; …]
-        assigns ! (of-opd ! (load ! (from ! (stop !)) (look ! 0 refl))) (from ! (stop !)) (init ! 6 refl (array-lawful 𝓤 H A W R (LL.lawful T.the-type T′.the-laws 𝓤 H A W) 64 .typed (zs .0) _ is₂ .0)) $
+        assigns ! (of-opd ! (load ! (from ! (stop !)) (look ! 0 refl))) (from ! (stop !)) (init ! 6 refl (array-lawful 𝓤 H A W R (LL.lawful T.the-type T′.the-laws 𝓤 H A W) filterCount .typed (zs .0) _ is₂ .0)) $
         assigns ! (agg ! (and-then ! (load ! (from ! (stop !)) (look ! 6 refl)) (and-then ! (load ! (from ! (stop !)) (look ! 20 refl)) (no-more !)))) (from ! (stop !)) (init ! 35 refl (LL.lawful D.the-type D′.the-laws 𝓤 H A W .typed (chunk (zs .0) p) _ (made (zs .0) p is₂ (is-held p u is)) .0)) $
         returns ! (look ! 35 refl) $ forget ! 0 refl $ forget ! 6 refl $ forget ! 8 refl $ forget ! 10 refl $ forget ! 12 refl $ forget ! 14 refl $ forget ! 16 refl $ forget ! 18 refl $ forget ! 20 refl $ forget ! 23 refl $ forget ! 25 refl $ forget ! 27 refl $ forget ! 29 refl $ forget ! 31 refl $ forget ! 33 refl $ forget ! 35 refl $
         move ! (35 ∷ 36 ∷ []) $ free1 ! $ move ! (33 ∷ 34 ∷ []) $ free1 ! $ move ! (31 ∷ 32 ∷ []) $ free1 ! $ move ! (29 ∷ 30 ∷ []) $ free1 ! $ move ! (27 ∷ 28 ∷ []) $ free1 ! $ move ! (25 ∷ 26 ∷ []) $ free1 ! $ move ! (23 ∷ 24 ∷ []) $ free1 ! $ move ! (0 ∷ 22 ∷ []) $ free1 ! $
@@ -271,11 +272,11 @@ module _ {M : Type 1} (𝓤 : URA M) (H : Heap 𝓤) (A : Atoms 𝓤) (W : Given
   self-walks : Walks 𝓤 H A self.ended stayed (WpFn 𝓤 H (𝓣 .C) (𝓣 .Λ) code.function) (self.clauses 𝓤 H A at-mem run)
   self-walks = walked 𝓤 H A self.ended stayed (self.clauses 𝓤 H A at-mem run) (WpFn 𝓤 H (𝓣 .C) (𝓣 .Λ) code.function)
       (λ κs. (array-vals valsR, (ptr-vals, (ptr-vals, (slice-vals, (slice-vals, (LL.vals K.the-type K′.the-laws, tt)))))))
-      (λ κs. (array-tells R valsR (LL.tells T.the-type T′.the-laws) 64, (mut-tells (named 0) (κs .0) Ws, (mut-tells (named 1) (κs .1 .0) Ls, (shr-slice-tells (named 2) (κs .1 .1 .0) u8, (mut-slice-tells (named 3) (κs .1 .1 .1 .0) u8, (LL.tells K.the-type K′.the-laws, tt)))))))
+      (λ κs. (array-tells R valsR (LL.tells T.the-type T′.the-laws) filterCount, (mut-tells (named 0) (κs .0) Ws, (mut-tells (named 1) (κs .1 .0) Ls, (shr-slice-tells (named 2) (κs .1 .1 .0) u8, (mut-slice-tells (named 3) (κs .1 .1 .1 .0) u8, (LL.tells K.the-type K′.the-laws, tt)))))))
       (λ κs qs bounds a g are. via 𝓤 _ (fst∗ 𝓤 _ (emp 𝓤))
       (walk 𝓤 H A W at-mem run (κs .0) (κs .1 .0) (κs .1 .1 .0) (κs .1 .1 .1 .0) (qs .0) (qs .1 .0) (qs .1 .1 .0) (qs .1 .1 .1 .0) (a .0) (a .1 .0 .ptr .0) (a .1 .0 .ptr .1) (a .1 .0 .name) (a .1 .0 .now) (a .1 .1 .0 .ptr .0) (a .1 .1 .0 .ptr .1) (a .1 .1 .0 .name) (a .1 .1 .0 .now) (a .1 .1 .1 .0) (a .1 .1 .1 .1 .0 .ptr .0) (a .1 .1 .1 .1 .0 .ptr .1) (a .1 .1 .1 .1 .0 .name) (a .1 .1 .1 .1 .0 .now) (a .1 .1 .1 .1 .1 .0)
       (are .0 .1 .0 .1) (are .1 .1 .1 .0 .0 .1) (are .1 .1 .1 .1 .0 .0 .1) (are .1 .1 .1 .1 .1 .0) (𝓣 .C) (𝓣 .Λ) (fmOf 𝓤 H (W .laws) 𝓣) known
-      (array-lawful 𝓤 H A W R (LL.lawful T.the-type T′.the-laws 𝓤 H A W) 64 .typed (a .0) _ (are .0) .0)))
+      (array-lawful 𝓤 H A W R (LL.lawful T.the-type T′.the-laws 𝓤 H A W) filterCount .typed (a .0) _ (are .0) .0)))
 
   self-meets : Meets 𝓤 H A self.signature (WpFn 𝓤 H (𝓣 .C) (𝓣 .Λ) code.function) (self.spec 𝓤 H A at-mem run)
   self-meets = walk-meets 𝓤 H A self.ended stayed W

@@ -1,36 +1,21 @@
 -- `run::tell_pass` meets its contract. Assumes nothing.
 use Prim.Native.Nat.{ℕ}
-use Rattle.text.specs.Lines.{passLineOf}
-use Rattle.run.specs.Run.{toldBy}
+use Rattle.text.specs.Meaning.{passLineOf}
+use Rattle.run.specs.Meaning.{printedBy}
 use Rattle.run.specs.Cases.{told-quiet, told-aloud}
 use borrow.Author.Needs.{needs}
 use Rattle.run.proofs.tell_pass.Statement.{statement}
 use Rattle.run.proofs.tell_pass.Tie as tie
 
-wrapping-add-u64-requires : tie.Need-wrapping-add-u64-requires
-wrapping-add-u64-requires c κs = search needs
-
-advance-requires : tie.Need-advance-requires
-advance-requires c κs = search needs
-
 returns : tie.Need-returns
-unfolding toldBy
+unfolding printedBy
 returns c =
     let w = c .before .before in
     let a = w .before .before .args in
     told-quiet (a .out .now) (a .p) _ (a .used) _ (λ (n : ℕ). passLineOf n (a .pass)) (w .wrapping-add-u64 .ensures) (c .before .if1 .taken) (c .advance .ensures)
 
-put-pass-requires : tie.Need-put-pass-requires
-put-pass-requires c κs = search needs
-
-advance-requires-2 : tie.Need-advance-requires-2
-advance-requires-2 c κs = search needs
-
-same-length : tie.Need-same-length
-same-length c = search needs
-
 returns-2 : tie.Need-returns-2
-unfolding toldBy
+unfolding printedBy
 returns-2 c =
     let l = c .before .before .before in
     let w = l .before .before .before in
@@ -41,10 +26,10 @@ pub tell-pass-spec : {M : Type 1} → statement M
 tell-pass-spec =
     tie.close
     (tie.spec
-    wrapping-add-u64-requires
-    advance-requires
+    (λ c κs. search needs)
+    (λ c κs. search needs)
     returns
-    put-pass-requires
-    advance-requires-2
-    same-length
+    (λ c κs. search needs)
+    (λ c κs. search needs)
+    (λ c. search needs)
     returns-2)

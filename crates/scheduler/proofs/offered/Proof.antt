@@ -40,7 +40,7 @@ use denote.Triple.Table.{entered, cited}
 use denote.Triple.Walked.{says, Stays, stay-none, walkOf, AllGo, goes-none, Walks, ends-at, walked, walk-meets}
 use denote.Triple.Clauses.{ensured, lasts}
 use denote.Exit.{yes}
-use Rattle.scheduler.specs.Step.{stepOf}
+use Rattle.scheduler.specs.Meaning.{schedulerStepOf}
 use Rattle.bucket.specs.declared.Octets.{Octets}
 use Rattle.scheduler.specs.declared.Scheduler.{Scheduler}
 use Rattle.scheduler.specs.declared.Outcome.{Outcome}
@@ -92,17 +92,17 @@ module _ {M : Type 1} (𝓤 : URA M) (H : Heap 𝓤) (A : Atoms 𝓤) (at-mem : 
 
   -- of the callee's `ensured`, the last value under the ghost name of the reference that was passed
   told : (α b : ℕ) (δ : GName) (h : Scheduler) (g w t : ℕ) (n : Octets) (r : Outcome)
-      → ent 𝓤 (ensured 𝓤 H A callee.ended (callee.clauses 𝓤 H A at-mem run) (α ∷ [], tt) (lent-at b δ h, (g, (w, (t, (n, tt))))) tt r) (A .res δ (S.the-row .coded .code (stepOf h g w t n .scheduler)))
+      → ent 𝓤 (ensured 𝓤 H A callee.ended (callee.clauses 𝓤 H A at-mem run) (α ∷ [], tt) (lent-at b δ h, (g, (w, (t, (n, tt))))) tt r) (A .res δ (S.the-row .coded .code (schedulerStepOf h g w t n .scheduler)))
   told α b δ h g w t n r = exE 𝓤 _ (λ ws.
       let L : SProp 𝓤 = sem 𝓤 H A (lasts callee.ended (α ∷ [], tt) (lent-at b δ h, (g, (w, (t, (n, tt))))) ws) in
-      let φ : Type 0 = (ws .0 ≡ stepOf h g w t n .scheduler) × (r ≡ stepOf h g w t n .outcome) in
+      let φ : Type 0 = (ws .0 ≡ schedulerStepOf h g w t n .scheduler) × (r ≡ schedulerStepOf h g w t n .outcome) in
       fact-use 𝓤 φ (snd∗ 𝓤 L (fact 𝓤 φ)) (λ e.
       subst (λ (s : Scheduler). ent 𝓤 (sep 𝓤 L (fact 𝓤 φ)) (A .res δ (S.the-row .coded .code s))) (e .0) (via 𝓤 L (fst∗ 𝓤 L (fact 𝓤 φ)) (fst∗ 𝓤 (A .res δ (S.the-row .coded .code (ws .0))) (sep 𝓤 (emp 𝓤) (sep 𝓤 (emp 𝓤) (sep 𝓤 (emp 𝓤) (sep 𝓤 (emp 𝓤) (emp 𝓤)))))))))
 
 module _ {M : Type 1} (𝓤 : URA M) (H : Heap 𝓤) (A : Atoms 𝓤) (W : Given 𝓤 H A) (at-mem : Memory → SProp 𝓤) (run : Routine → Fun 𝓤) (h : Scheduler) (g w t : ℕ) (n : Octets)
     (isS : Is S.the-row h (valS h ∷ [])) (fg : g < 2 ^ 64) (fw : w < 2 ^ 64) (ft : t < 2 ^ 64) (isN : Is O.the-row n (valO n ∷ [])) where
   abbrev h′ : Scheduler
-  h′ = stepOf h g w t n .scheduler
+  h′ = schedulerStepOf h g w t n .scheduler
 
   abbrev bound : walkOf 𝓤 H A self.ended stayed (self.clauses 𝓤 H A at-mem run) .Ghost
   bound = ((tt, tt, tt, (h, (g, (w, (t, (n, tt))))), (valS h ∷ [], (vint w64 g ∷ [], (vint w64 w ∷ [], (vint w64 t ∷ [], (valO n ∷ [], tt)))))), tt)

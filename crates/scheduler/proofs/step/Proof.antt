@@ -2,13 +2,12 @@
 -- Assumes nothing.
 use mathlib.Core.Path.{_≡_, sym, _∙_}
 use mathlib.Core.Bool.{true, false}
-use Prim.Native.Nat.{_-_}
 use borrow.Author.Needs.{needs}
 use borrow.Author.Tests.{not-true, not-false}
 use native.Mathlib.Omega.{arith}
 use Rattle.bucket.specs.Laws.{wait-bound}
-use Rattle.bucket.specs.Bucket.{grains}
-use Rattle.scheduler.specs.Step.{eligibleOf}
+use Rattle.bucket.specs.Meaning.{grains}
+use Rattle.scheduler.specs.Meaning.{eligibleOf}
 use Rattle.scheduler.specs.Range.{Ranged, ranged, testOf}
 use Rattle.scheduler.specs.Cases.{step-refused, step-admitted, step-dropped, enough}
 use Rattle.scheduler.proofs.step.Statement.{statement}
@@ -27,15 +26,6 @@ range c = let a = c .before .before .before .before .before .before .args in ran
 gave : (c : tie.After-later2) → let a = c .before .before .before .before .before .before .before .before .before .args in c .later2 .result ≡ eligibleOf (a .s) (a .group) (a .arrival) (a .length .0)
 gave c = omega arith
 
-cast-burst : tie.Need-cast-burst
-cast-burst c = search needs
-
-cast-octets : tie.Need-cast-octets
-cast-octets c = search needs
-
-in-range-requires : tie.Need-in-range-requires
-in-range-requires c κs = search needs
-
 returns : tie.Need-returns
 returns c = let a = c .before .before .before .before .before .before .args in
     sym (step-refused (a .s) (a .group) (a .residence) (a .arrival) (a .length) (refused c))
@@ -50,20 +40,11 @@ add-later : tie.Need-add-later
 add-later c = let k = range (c .before) in let s = c .before .before .before .before .before .before .before .args .s in
     omega (arith, k, wait-bound (s .level) (s .rate .0) (grains (c .before .before .before .before .before .before .before .args .length .0)) (k .rate-low))
 
-later-requires : tie.Need-later-requires
-later-requires c κs = search needs
-
-later-requires-2 : tie.Need-later-requires-2
-later-requires-2 c κs = search needs
-
 add-if2 : tie.Need-add-if2
 add-if2 c = let k = range (c .before .before .before) in omega arith
 
 mul-grow : tie.Need-mul-grow
 mul-grow c = let k = range (c .before .before .before .before) in omega arith
-
-sub-grow : tie.Need-sub-grow
-sub-grow c = search needs
 
 grow-requires : tie.Need-grow-requires
 grow-requires c κs = let k = range (c .before .before .before .before) in omega arith
@@ -84,18 +65,18 @@ pub step-spec : {M : Type 1} → statement M
 step-spec =
     tie.close
     (tie.spec
-    cast-burst
-    cast-octets
-    in-range-requires
+    (λ c. search needs)
+    (λ c. search needs)
+    (λ c κs. search needs)
     returns
     mul-need
     wait-requires
     add-later
-    later-requires
-    later-requires-2
+    (λ c κs. search needs)
+    (λ c κs. search needs)
     add-if2
     mul-grow
-    sub-grow
+    (λ c. search needs)
     grow-requires
     sub-left
     returns-2

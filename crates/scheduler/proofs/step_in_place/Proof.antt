@@ -40,7 +40,7 @@ use denote.Triple.Table.{entered, cited}
 use denote.Triple.Walked.{says, Stays, stay-ref, stay-none, walkOf, AllGo, goes-none, goes-ref, Walks, ends-at, walked, walk-meets}
 use denote.Triple.Clauses.{ensured}
 use denote.Exit.{yes}
-use Rattle.scheduler.specs.Step.{stepOf}
+use Rattle.scheduler.specs.Meaning.{schedulerStepOf}
 use Rattle.bucket.specs.declared.Octets.{Octets}
 use Rattle.scheduler.specs.declared.Scheduler.{Scheduler}
 use Rattle.scheduler.specs.declared.Stepped.{Stepped}
@@ -86,7 +86,7 @@ module _ {M : Type 1} (𝓤 : URA M) (H : Heap 𝓤) (A : Atoms 𝓤) (W : Given
   Post = walkOf 𝓤 H A self.ended stayed (self.clauses 𝓤 H A at-mem run) .post (((κ, tt), (q, tt), tt, x, at), tt)
 
   -- the end: the borrow is shut at the new scheduler, and the outcome is returned
-  exits : (r : Stepped) → r ≡ stepOf h g w t n → Is Q.the-row (r .outcome) (valQ (r .outcome) ∷ [])
+  exits : (r : Stepped) → r ≡ schedulerStepOf h g w t n → Is Q.the-row (r .outcome) (valQ (r .outcome) ∷ [])
       → ent 𝓤 (sep 𝓤 (A .obs γ (S.the-row .coded .code (r .scheduler))) (sep 𝓤 (A .bor κ (Body (mem S.the-row) b o γ)) (A .lft κ q))) (Post (valQ (r .outcome)))
   exits r e isQ =
       qed W (‵ (fobs γ (S.the-row .coded .code (r .scheduler))) ∷ ‵ (fbor κ (Body (mem S.the-row) b o γ)) ∷ ‵ (flft κ q) ∷ []) ∵
@@ -129,7 +129,7 @@ module _ {M : Type 1} (𝓤 : URA M) (H : Heap 𝓤) (A : Atoms 𝓤) (W : Given
         calls-at ! fm (Callee 𝓤 H A at-mem run) known to-callee
         (and-then ! (load ! (from ! (stop !)) (look ! 6 refl)) (and-then ! (load ! (from ! (stop !)) (look ! 16 refl)) (and-then ! (load ! (from ! (stop !)) (look ! 14 refl)) (and-then ! (load ! (from ! (stop !)) (look ! 12 refl)) (and-then ! (load ! (from ! (stop !)) (look ! 10 refl)) (no-more !)))))) (λ v.
         use1 W (later (some (λ (r : Stepped). (‵ ftrue ⊛ ‵ (D.the-row .own r (v ∷ []))) ⊛ raw (ensured 𝓤 H A callee.ended (callee.clauses 𝓤 H A at-mem run) tt (h, (g, (w, (t, (n, tt))))) tt r)))) (id⊢ 𝓤 _) $ await ! tt $ pick ! (λ r.
-        split ! $ move ! (1 ∷ []) $ use1 W (raw (fact 𝓤 (r ≡ stepOf h g w t n))) (gave-of 𝓤 H A at-mem run h g w t n r) $ heard ! (r ≡ stepOf h g w t n) (λ e. split ! $ drop ! $
+        split ! $ move ! (1 ∷ []) $ use1 W (raw (fact 𝓤 (r ≡ schedulerStepOf h g w t n))) (gave-of 𝓤 H A at-mem run h g w t n r) $ heard ! (r ≡ schedulerStepOf h g w t n) (λ e. split ! $ drop ! $
         peeks ! D.the-row (Is D.the-row) (shows 𝓤 H A D.the-row) r (v ∷ []) (λ is.
         land ! (from ! (stop !)) (init ! 8 refl (LL.lawful D.the-type D′.the-laws 𝓤 H A W .typed r _ is .0)) $ drop ! $
         rewrite ! 7 (λ (u : Val). ‵ (fat fullShare D′.mir l₆ 0 u)) (ap only (LL.tells D.the-type D′.the-laws r (v ∷ []) is)) refl $

@@ -1,7 +1,7 @@
 -- `setup::add_entry` meets its contract: the count of entries says which case of `entryOf` holds. Assumes nothing.
 use borrow.Author.Needs.{needs}
 use mathlib.Core.Path.{sym}
-use Rattle.bank.specs.Rows.{rowsOf}
+use Rattle.bank.specs.Meaning.{rowsOf}
 use Rattle.setup.specs.Cases.{entry-taken, entry-ninth}
 use Rattle.setup.proofs.add_entry.Statement.{statement}
 use Rattle.setup.proofs.add_entry.Tie as tie

@@ -2,17 +2,17 @@
 use borrow.Author.Needs.{needs}
 use mathlib.Core.Path.{sym, ap, _∙_}
 use mathlib.Core.Bool.{not}
-use Rattle.setup.specs.Setup.{octetsOf}
+use Rattle.setup.specs.Meaning.{clearOctetsOf}
 use Rattle.setup.specs.Cases.{if-refused, if-goes-on}
 use Rattle.setup.proofs.clear_octets.Statement.{statement}
 use Rattle.setup.proofs.clear_octets.Tie as tie
 
 returns : tie.Need-returns
-unfolding octetsOf
+unfolding clearOctetsOf
 returns c = sym (if-refused _ _ _ _ (ap not (sym (c .before .gate-set .ensures)) ∙ c .if1 .taken))
 
 returns-2 : tie.Need-returns-2
-unfolding octetsOf
+unfolding clearOctetsOf
 returns-2 c =
     rw (c .put-gate-state .ensures, c .before .before .gate-at .ensures)
     (sym (if-goes-on _ _ _ _ (ap not (sym (c .before .before .before .before .before .gate-set .ensures)) ∙ c .before .before .before .before .if1 .left)))

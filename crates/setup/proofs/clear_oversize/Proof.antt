@@ -2,20 +2,19 @@
 use borrow.Author.Needs.{needs}
 use mathlib.Core.Path.{sym, ap, _∙_}
 use mathlib.Core.Bool.{not}
-use Rattle.setup.specs.Setup.{oversizeOf}
+use Rattle.setup.specs.Meaning.{clearOversizeOf}
 use Rattle.setup.specs.Cases.{if-refused, if-goes-on}
 use Rattle.setup.proofs.clear_oversize.Statement.{statement}
 use Rattle.setup.proofs.clear_oversize.Tie as tie
 
 returns : tie.Need-returns
-unfolding oversizeOf
+unfolding clearOversizeOf
 returns c = sym (if-refused _ _ _ _ (ap not (sym (c .before .counts .ensures)) ∙ c .if1 .taken))
 
 returns-2 : tie.Need-returns-2
-unfolding oversizeOf
+unfolding clearOversizeOf
 returns-2 c =
-    rw (c .put-counters .ensures, c .before .before .counters-at .ensures)
-    (sym (if-goes-on _ _ _ _ (ap not (sym (c .before .before .before .before .before .counts .ensures)) ∙ c .before .before .before .before .if1 .left)))
+    rw (c .put-oversize .ensures) (sym (if-goes-on _ _ _ _ (ap not (sym (c .before .before .before .counts .ensures)) ∙ c .before .before .if1 .left)))
 
 pub clear-oversize-spec : {M : Type 1} → statement M
-clear-oversize-spec = tie.close (tie.spec (λ c κs. search needs) returns (λ c κs. search needs) (λ c κs. search needs) returns-2)
+clear-oversize-spec = tie.close (tie.spec (λ c κs. search needs) returns (λ c κs. search needs) returns-2)

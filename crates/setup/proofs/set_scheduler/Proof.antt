@@ -1,17 +1,17 @@
--- `setup::set_scheduler` meets its contract: the scheduler row says which case of `schedulerOf` holds. Assumes nothing.
+-- `setup::set_scheduler` meets its contract: the scheduler row says which case of `setSchedulerOf` holds. Assumes nothing.
 use borrow.Author.Needs.{needs}
 use mathlib.Core.Path.{sym, _∙_}
-use Rattle.setup.specs.Setup.{schedulerOf}
+use Rattle.setup.specs.Meaning.{setSchedulerOf}
 use Rattle.setup.specs.Cases.{if-refused, if-goes-on}
 use Rattle.setup.proofs.set_scheduler.Statement.{statement}
 use Rattle.setup.proofs.set_scheduler.Tie as tie
 
 returns : tie.Need-returns
-unfolding schedulerOf
+unfolding setSchedulerOf
 returns c = sym (if-refused _ _ _ _ (sym (c .before .scheduler-set .ensures) ∙ c .if1 .taken))
 
 returns-2 : tie.Need-returns-2
-unfolding schedulerOf
+unfolding setSchedulerOf
 returns-2 c = rw (c .set-up-scheduler .ensures, c .before .fresh .ensures) (sym (if-goes-on _ _ _ _ (sym (c .before .before .before .before .before .before .before .scheduler-set .ensures) ∙ c .before .before .before .before .before .before .if1 .left)))
 
 pub set-scheduler-spec : {M : Type 1} → statement M

@@ -3,17 +3,18 @@ use Prim.Native.Nat.{_≤_, _-_}
 use mathlib.Core.Path.{_≡_, refl, ap, _∙_}
 use native.Mathlib.Omega.{arith}
 use borrow.Author.Needs.{needs}
-use Rattle.bank.specs.Rows.{rowsOf}
-use Rattle.setup.specs.Setup.{grouplessOf, someOf}
+use Rattle.bank.specs.Meaning.{rowsOf}
+use Rattle.sizes.specs.Meaning.{schedulerCount}
+use Rattle.setup.specs.Meaning.{grouplessOf, someOf}
 use Rattle.setup.specs.Cases.{some-more}
 use Rattle.setup.proofs.some_groupless.Statement.{statement}
 use Rattle.setup.proofs.some_groupless.Tie as tie
 
 abbrev Inv-loop : tie.InvT-loop
-Inv-loop bank found₀ i₀ found i = (i ≤ 32) × (found ≡ someOf (grouplessOf (rowsOf bank)) i)
+Inv-loop bank found₀ i₀ found i = (i ≤ schedulerCount) × (found ≡ someOf (grouplessOf (rowsOf bank)) i)
 
 abbrev μ-loop : tie.MeasureT-loop
-μ-loop bank found₀ i₀ found i = 32 - i
+μ-loop bank found₀ i₀ found i = schedulerCount - i
 
 loop-holds : tie.Need-loop-holds Inv-loop μ-loop
 unfolding someOf

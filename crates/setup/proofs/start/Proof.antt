@@ -1,30 +1,35 @@
--- `setup::start` meets its contract: the three searches say which case of `startOf` holds. Assumes nothing.
+-- `setup::start` meets its contract: the searches say which case of `startOf` holds. Assumes nothing.
 use borrow.Author.Needs.{needs}
-use borrow.Author.Tests.{lt-ltb, le-ltb}
 use mathlib.Core.Path.{sym, _∙_}
-use Rattle.setup.specs.Setup.{startOf}
+use Rattle.setup.specs.Meaning.{startOf}
 use Rattle.setup.specs.Cases.{if-refused, if-goes-on}
 use Rattle.setup.proofs.start.Statement.{statement}
 use Rattle.setup.proofs.start.Tie as tie
 
 returns : tie.Need-returns
 unfolding startOf
-returns c = sym (if-refused _ _ _ _ (rw (c .before .some-groupless .ensures, c .before .before .before .some-stray .ensures) at (c .if1 .taken)))
+returns c = let tested = c .before in
+    sym (if-refused _ _ _ _ (rw (tested .some-groupless .ensures, tested .before .before .some-stray .ensures, tested .before .before .before .before .is-found .ensures) at (c .if1 .taken)))
 
 returns-2 : tie.Need-returns-2
 unfolding startOf
 returns-2 c =
+    let whole = c .before .before in
+    let tested = whole .before in
     sym
-    (if-goes-on _ _ _ _ (rw (c .before .before .some-groupless .ensures, c .before .before .before .before .some-stray .ensures) at (c .before .if1 .left))
-    ∙ if-refused _ _ _ _ (lt-ltb _ _ (c .if2 .taken)))
+    (if-goes-on _ _ _ _ (rw (tested .some-groupless .ensures, tested .before .before .some-stray .ensures, tested .before .before .before .before .is-found .ensures) at (whole .if1 .left))
+    ∙ if-refused _ _ _ _ (rw (c .before .is-found2 .ensures) at (c .if2 .taken)))
 
 returns-3 : tie.Need-returns-3
 unfolding startOf
 returns-3 c =
-    rw (c .put-stage .ensures, c .before .before .before .stage-at .ensures)
+    let small = c .before .before .before in
+    let whole = small .before .before in
+    let tested = whole .before in
+    rw (c .put-classes .ensures)
     (sym
-    (if-goes-on _ _ _ _ (rw (c .before .before .before .before .before .before .before .some-groupless .ensures, c .before .before .before .before .before .before .before .before .before .some-stray .ensures) at (c .before .before .before .before .before .before .if1 .left))
-    ∙ if-goes-on _ _ _ _ (le-ltb _ _ (c .before .before .before .before .before .if2 .left))))
+    (if-goes-on _ _ _ _ (rw (tested .some-groupless .ensures, tested .before .before .some-stray .ensures, tested .before .before .before .before .is-found .ensures) at (whole .if1 .left))
+    ∙ if-goes-on _ _ _ _ (rw (small .before .is-found2 .ensures) at (small .if2 .left))))
 
 pub start-spec : {M : Type 1} → statement M
 start-spec =
@@ -32,9 +37,10 @@ start-spec =
     (tie.spec
     (λ c κs. search needs)
     (λ c κs. search needs)
-    returns
-    returns-2
     (λ c κs. search needs)
+    returns
+    (λ c κs. search needs)
+    returns-2
     (λ c. search needs)
     (λ c κs. search needs)
     returns-3)

@@ -7,7 +7,7 @@ use types.Run.{OneOf, miss}
 use Rattle.verdict.specs.declared.Verdict.{Verdict}
 use Rattle.verdict.specs.declared.Verdict.the-variants.{Refused, Taken, Passed, Dropped}
 use Rattle.verdict.proofs.Verdict as verdict-type
-use Rattle.stage.specs.Take.{answered}
+use Rattle.stage.specs.Meaning.{answered}
 use borrow.Author.Needs.{needs}
 use Rattle.stage.proofs.octets.Statement.{statement}
 use Rattle.stage.proofs.octets.Tie as tie
@@ -19,17 +19,8 @@ other Taken used k = refl
 other (Passed p) used k = refl
 other (Dropped d) used k = refl
 
--- src/lib.rt:219:32
-enum-told : tie.Need-enum-told
-enum-told c = search needs
-
--- src/lib.rt:215:1
-returns : tie.Need-returns
-returns c = search needs
-
--- src/lib.rt:215:1
 returns-2 : tie.Need-returns-2
 returns-2 c = other (c .before .args .v) (c .before .args .used) (c .match .keys2)
 
 pub octets-spec : {M : Type 1} → statement M
-octets-spec = tie.close (tie.spec enum-told returns returns-2)
+octets-spec = tie.close (tie.spec (λ c. search needs) (λ c. search needs) returns-2)

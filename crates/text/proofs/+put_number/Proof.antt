@@ -1,7 +1,7 @@
 -- `text::put_number` meets its contract. It calls itself on a hundredth of the number, which is the measure. Assumes nothing.
 use mathlib.Core.Path.{sym, ap, _∙_}
 use native.Mathlib.Omega.{arith}
-use Rattle.text.specs.Page.{written}
+use Rattle.text.specs.Meaning.{written}
 use Rattle.text.specs.Laws.{written-one, written-then, digits-one, digits-two, digits-pair}
 use Prim.Native.Nat.{ℕ, _<_}
 use borrow.Fn.Kinds.{In}

@@ -1,36 +1,11 @@
 -- `text::put_drop` meets its contract: each part of the line is put after the one before it. Assumes nothing.
 use mathlib.Core.Path.{ap, _∙_}
 use Prim.Native.Nat.{ℕ}
-use Rattle.text.specs.Page.{page, written}
+use Rattle.text.specs.Meaning.{page, written, digitsOf, dropLineOf}
 use Rattle.text.specs.Laws.{written-one, written-then}
-use Rattle.text.specs.Lines.{digitsOf, dropLineOf}
 use borrow.Author.Needs.{needs}
 use Rattle.text.proofs.put_drop.Statement.{statement}
 use Rattle.text.proofs.put_drop.Tie as tie
-
-put-number-requires : tie.Need-put-number-requires
-put-number-requires c κs = search needs
-
-slice-aggregate-put-octets : tie.Need-slice-aggregate-put-octets
-slice-aggregate-put-octets c = search needs
-
-put-octets-requires : tie.Need-put-octets-requires
-put-octets-requires c κs = search needs
-
-drop-number-requires : tie.Need-drop-number-requires
-drop-number-requires c κs = search needs
-
-cast-put-number : tie.Need-cast-put-number
-cast-put-number c = search needs
-
-put-number-requires-2 : tie.Need-put-number-requires-2
-put-number-requires-2 c κs = search needs
-
-put-octet-requires : tie.Need-put-octet-requires
-put-octet-requires c κs = search needs
-
-same-length : tie.Need-same-length
-same-length c = search needs
 
 returns : tie.Need-returns
 unfolding dropLineOf
@@ -45,12 +20,12 @@ pub put-drop-spec : {M : Type 1} → statement M
 put-drop-spec =
     tie.close
     (tie.spec
-    put-number-requires
-    slice-aggregate-put-octets
-    put-octets-requires
-    drop-number-requires
-    cast-put-number
-    put-number-requires-2
-    put-octet-requires
-    same-length
+    (λ c κs. search needs)
+    (λ c. search needs)
+    (λ c κs. search needs)
+    (λ c κs. search needs)
+    (λ c. search needs)
+    (λ c κs. search needs)
+    (λ c κs. search needs)
+    (λ c. search needs)
     returns)

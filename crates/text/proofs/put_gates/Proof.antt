@@ -5,11 +5,10 @@ use Prim.Native.Nat.{ℕ, _-_, _≤_}
 use native.Mathlib.Omega.{arith}
 use borrow.Author.Needs.{needs}
 use lib.ListN.{length}
-use Rattle.bank.specs.Rows.{rowsOf}
-use Rattle.bank.specs.Views.{gate}
+use Rattle.sizes.specs.Meaning.{gateCount}
+use Rattle.bank.specs.Meaning.{rowsOf, gate}
 use Rattle.gate.specs.declared.Gate.{Gate}
-use Rattle.text.specs.Page.{page, written}
-use Rattle.text.specs.Lines.{gateItemsOf, upTo}
+use Rattle.text.specs.Meaning.{page, written, gateItemsOf, upTo}
 use Rattle.text.specs.Laws.{up-none, up-next, up-last}
 use Rattle.text.proofs.put_gates.Statement.{statement}
 use Rattle.text.proofs.put_gates.Tie as tie
@@ -18,25 +17,13 @@ abbrev items : List ℕ → ℕ → List ℕ
 items bank i = gateItemsOf i (gate (rowsOf bank) i)
 
 abbrev Inv-loop : tie.InvT-loop
-Inv-loop out₀ at bank next₀ i₀ out next i = (i ≤ 16) × ((length out ≡ length out₀) × (page out next ≡ written (page out₀ at) (upTo (items bank) i)))
+Inv-loop out₀ at bank next₀ i₀ out next i = (i ≤ gateCount) × ((length out ≡ length out₀) × (page out next ≡ written (page out₀ at) (upTo (items bank) i)))
 
 abbrev μ-loop : tie.MeasureT-loop
-μ-loop out₀ at bank next₀ i₀ out next i = 16 - i
+μ-loop out₀ at bank next₀ i₀ out next i = gateCount - i
 
 loop-holds : tie.Need-loop-holds Inv-loop μ-loop
 loop-holds c = (omega arith, (refl, up-none _ _))
-
-gate-at-requires : tie.Need-gate-at-requires Inv-loop μ-loop
-gate-at-requires c κs = search needs
-
-put-gate-requires : tie.Need-put-gate-requires Inv-loop μ-loop
-put-gate-requires c κs = search needs
-
-add-i : tie.Need-add-i Inv-loop μ-loop
-add-i c = omega arith
-
-loop-less : tie.Need-loop-less Inv-loop μ-loop
-loop-less c = omega arith
 
 loop-again : tie.Need-loop-again Inv-loop μ-loop
 loop-again c =
@@ -52,7 +39,7 @@ same-length c = c .before .loop .inv .1 .0
 returns : tie.Need-returns Inv-loop μ-loop
 returns c =
     let l = c .before .loop in
-    up-last _ _ _ (l .i) 16 (l .inv .0) (omega arith) (l .inv .1 .1)
+    up-last _ _ _ (l .i) gateCount (l .inv .0) (omega arith) (l .inv .1 .1)
 
 pub put-gates-spec : {M : Type 1} → statement M
 put-gates-spec =
@@ -61,10 +48,10 @@ put-gates-spec =
     Inv-loop
     μ-loop
     loop-holds
-    gate-at-requires
-    put-gate-requires
-    add-i
-    loop-less
+    (λ c κs. search needs)
+    (λ c κs. search needs)
+    (λ c. omega arith)
+    (λ c. omega arith)
     loop-again
     same-length
     returns)

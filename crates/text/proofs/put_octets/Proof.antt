@@ -7,7 +7,7 @@ use native.Mathlib.Omega.{arith}
 use borrow.Author.Needs.{needs}
 use lib.ListN.{length, drop}
 use lib.Seq.{drop-length}
-use Rattle.text.specs.Page.{page, written}
+use Rattle.text.specs.Meaning.{page, written}
 use Rattle.text.specs.Laws.{written-next, written-none}
 use Rattle.text.proofs.put_octets.Statement.{statement}
 use Rattle.text.proofs.put_octets.Tie as tie
@@ -20,18 +20,6 @@ abbrev μ-loop : tie.MeasureT-loop
 
 loop-holds : tie.Need-loop-holds Inv-loop μ-loop
 loop-holds c = (omega arith, (refl, refl))
-
-shared-slice-read-put-octet : tie.Need-shared-slice-read-put-octet Inv-loop μ-loop
-shared-slice-read-put-octet c = omega arith
-
-put-octet-requires : tie.Need-put-octet-requires Inv-loop μ-loop
-put-octet-requires c κs = search needs
-
-add-i : tie.Need-add-i Inv-loop μ-loop
-add-i c = omega arith
-
-loop-less : tie.Need-loop-less Inv-loop μ-loop
-loop-less c = omega arith
 
 loop-again : tie.Need-loop-again Inv-loop μ-loop
 loop-again c =
@@ -59,10 +47,10 @@ put-octets-spec =
     Inv-loop
     μ-loop
     loop-holds
-    shared-slice-read-put-octet
-    put-octet-requires
-    add-i
-    loop-less
+    (λ c. omega arith)
+    (λ c κs. search needs)
+    (λ c. omega arith)
+    (λ c. omega arith)
     loop-again
     same-length
     returns)

@@ -1,52 +1,10 @@
 -- `text::put_pass` meets its contract: each part of the line is put after the one before it. Assumes nothing.
 use mathlib.Core.Path.{_∙_}
 use Rattle.text.specs.Laws.{written-one, written-then}
-use Rattle.text.specs.Lines.{passLineOf}
+use Rattle.text.specs.Meaning.{passLineOf}
 use borrow.Author.Needs.{needs}
 use Rattle.text.proofs.put_pass.Statement.{statement}
 use Rattle.text.proofs.put_pass.Tie as tie
-
-put-number-requires : tie.Need-put-number-requires
-put-number-requires c κs = search needs
-
-slice-aggregate-put-octets : tie.Need-slice-aggregate-put-octets
-slice-aggregate-put-octets c = search needs
-
-put-octets-requires : tie.Need-put-octets-requires
-put-octets-requires c κs = search needs
-
-cast-put-number : tie.Need-cast-put-number
-cast-put-number c = search needs
-
-put-number-requires-2 : tie.Need-put-number-requires-2
-put-number-requires-2 c κs = search needs
-
-put-octet-requires : tie.Need-put-octet-requires
-put-octet-requires c κs = search needs
-
-cast-put-number-2 : tie.Need-cast-put-number-2
-cast-put-number-2 c = search needs
-
-put-number-requires-3 : tie.Need-put-number-requires-3
-put-number-requires-3 c κs = search needs
-
-put-octet-requires-2 : tie.Need-put-octet-requires-2
-put-octet-requires-2 c κs = search needs
-
-cast-put-number-3 : tie.Need-cast-put-number-3
-cast-put-number-3 c = search needs
-
-put-number-requires-4 : tie.Need-put-number-requires-4
-put-number-requires-4 c κs = search needs
-
-put-octet-requires-3 : tie.Need-put-octet-requires-3
-put-octet-requires-3 c κs = search needs
-
-put-time-requires : tie.Need-put-time-requires
-put-time-requires c κs = search needs
-
-put-octet-requires-4 : tie.Need-put-octet-requires-4
-put-octet-requires-4 c κs = search needs
 
 same-length : tie.Need-same-length
 same-length c =
@@ -81,19 +39,19 @@ pub put-pass-spec : {M : Type 1} → statement M
 put-pass-spec =
     tie.close
     (tie.spec
-    put-number-requires
-    slice-aggregate-put-octets
-    put-octets-requires
-    cast-put-number
-    put-number-requires-2
-    put-octet-requires
-    cast-put-number-2
-    put-number-requires-3
-    put-octet-requires-2
-    cast-put-number-3
-    put-number-requires-4
-    put-octet-requires-3
-    put-time-requires
-    put-octet-requires-4
+    (λ c κs. search needs)
+    (λ c. search needs)
+    (λ c κs. search needs)
+    (λ c. search needs)
+    (λ c κs. search needs)
+    (λ c κs. search needs)
+    (λ c. search needs)
+    (λ c κs. search needs)
+    (λ c κs. search needs)
+    (λ c. search needs)
+    (λ c κs. search needs)
+    (λ c κs. search needs)
+    (λ c κs. search needs)
+    (λ c κs. search needs)
     same-length
     returns)

@@ -5,11 +5,10 @@ use Prim.Native.Nat.{ℕ, _-_, _≤_}
 use native.Mathlib.Omega.{arith}
 use borrow.Author.Needs.{needs}
 use lib.ListN.{length}
-use Rattle.bank.specs.Rows.{rowsOf}
-use Rattle.bank.specs.Views.{port}
+use Rattle.sizes.specs.Meaning.{portCount}
+use Rattle.bank.specs.Meaning.{rowsOf, port}
 use Rattle.bank.specs.declared.Port.{Port}
-use Rattle.text.specs.Page.{page, written}
-use Rattle.text.specs.Lines.{portItemOf, upTo}
+use Rattle.text.specs.Meaning.{page, written, portItemOf, upTo}
 use Rattle.text.specs.Laws.{up-none, up-next, up-last}
 use Rattle.text.proofs.put_ports.Statement.{statement}
 use Rattle.text.proofs.put_ports.Tie as tie
@@ -18,25 +17,13 @@ abbrev items : List ℕ → ℕ → List ℕ
 items bank i = portItemOf i (port (rowsOf bank) i)
 
 abbrev Inv-loop : tie.InvT-loop
-Inv-loop out₀ at bank next₀ i₀ out next i = (i ≤ 8) × ((length out ≡ length out₀) × (page out next ≡ written (page out₀ at) (upTo (items bank) i)))
+Inv-loop out₀ at bank next₀ i₀ out next i = (i ≤ portCount) × ((length out ≡ length out₀) × (page out next ≡ written (page out₀ at) (upTo (items bank) i)))
 
 abbrev μ-loop : tie.MeasureT-loop
-μ-loop out₀ at bank next₀ i₀ out next i = 8 - i
+μ-loop out₀ at bank next₀ i₀ out next i = portCount - i
 
 loop-holds : tie.Need-loop-holds Inv-loop μ-loop
 loop-holds c = (omega arith, (refl, up-none _ _))
-
-port-at-requires : tie.Need-port-at-requires Inv-loop μ-loop
-port-at-requires c κs = search needs
-
-put-port-requires : tie.Need-put-port-requires Inv-loop μ-loop
-put-port-requires c κs = search needs
-
-add-i : tie.Need-add-i Inv-loop μ-loop
-add-i c = omega arith
-
-loop-less : tie.Need-loop-less Inv-loop μ-loop
-loop-less c = omega arith
 
 loop-again : tie.Need-loop-again Inv-loop μ-loop
 loop-again c =
@@ -52,7 +39,7 @@ same-length c = c .before .loop .inv .1 .0
 returns : tie.Need-returns Inv-loop μ-loop
 returns c =
     let l = c .before .loop in
-    up-last _ _ _ (l .i) 8 (l .inv .0) (omega arith) (l .inv .1 .1)
+    up-last _ _ _ (l .i) portCount (l .inv .0) (omega arith) (l .inv .1 .1)
 
 pub put-ports-spec : {M : Type 1} → statement M
 put-ports-spec =
@@ -61,10 +48,10 @@ put-ports-spec =
     Inv-loop
     μ-loop
     loop-holds
-    port-at-requires
-    put-port-requires
-    add-i
-    loop-less
+    (λ c κs. search needs)
+    (λ c κs. search needs)
+    (λ c. omega arith)
+    (λ c. omega arith)
     loop-again
     same-length
     returns)

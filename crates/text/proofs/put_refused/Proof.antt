@@ -1,33 +1,9 @@
 -- `text::put_refused` meets its contract: each part of the line is put after the one before it. Assumes nothing.
 use Rattle.text.specs.Laws.{written-one, written-then}
-use Rattle.text.specs.Lines.{refusedLineOf}
+use Rattle.text.specs.Meaning.{refusedLineOf}
 use borrow.Author.Needs.{needs}
 use Rattle.text.proofs.put_refused.Statement.{statement}
 use Rattle.text.proofs.put_refused.Tie as tie
-
-slice-aggregate-put-octets : tie.Need-slice-aggregate-put-octets
-slice-aggregate-put-octets c = search needs
-
-put-octets-requires : tie.Need-put-octets-requires
-put-octets-requires c κs = search needs
-
-put-number-requires : tie.Need-put-number-requires
-put-number-requires c κs = search needs
-
-slice-aggregate-put-octets-2 : tie.Need-slice-aggregate-put-octets-2
-slice-aggregate-put-octets-2 c = search needs
-
-put-octets-requires-2 : tie.Need-put-octets-requires-2
-put-octets-requires-2 c κs = search needs
-
-put-number-requires-2 : tie.Need-put-number-requires-2
-put-number-requires-2 c κs = search needs
-
-put-octet-requires : tie.Need-put-octet-requires
-put-octet-requires c κs = search needs
-
-same-length : tie.Need-same-length
-same-length c = search needs
 
 returns : tie.Need-returns
 unfolding refusedLineOf
@@ -43,12 +19,12 @@ pub put-refused-spec : {M : Type 1} → statement M
 put-refused-spec =
     tie.close
     (tie.spec
-    slice-aggregate-put-octets
-    put-octets-requires
-    put-number-requires
-    slice-aggregate-put-octets-2
-    put-octets-requires-2
-    put-number-requires-2
-    put-octet-requires
-    same-length
+    (λ c. search needs)
+    (λ c κs. search needs)
+    (λ c κs. search needs)
+    (λ c. search needs)
+    (λ c κs. search needs)
+    (λ c κs. search needs)
+    (λ c κs. search needs)
+    (λ c. search needs)
     returns)

@@ -1,24 +1,9 @@
 -- `text::put_report` meets its contract. Assumes nothing.
 use Rattle.text.specs.Laws.{written-then}
-use Rattle.text.specs.Lines.{reportOf}
+use Rattle.text.specs.Meaning.{reportOf}
 use borrow.Author.Needs.{needs}
 use Rattle.text.proofs.put_report.Statement.{statement}
 use Rattle.text.proofs.put_report.Tie as tie
-
-put-filters-requires : tie.Need-put-filters-requires
-put-filters-requires c κs = search needs
-
-put-gates-requires : tie.Need-put-gates-requires
-put-gates-requires c κs = search needs
-
-put-meters-requires : tie.Need-put-meters-requires
-put-meters-requires c κs = search needs
-
-put-ports-requires : tie.Need-put-ports-requires
-put-ports-requires c κs = search needs
-
-same-length : tie.Need-same-length
-same-length c = search needs
 
 returns : tie.Need-returns
 unfolding reportOf
@@ -33,9 +18,9 @@ pub put-report-spec : {M : Type 1} → statement M
 put-report-spec =
     tie.close
     (tie.spec
-    put-filters-requires
-    put-gates-requires
-    put-meters-requires
-    put-ports-requires
-    same-length
+    (λ c κs. search needs)
+    (λ c κs. search needs)
+    (λ c κs. search needs)
+    (λ c κs. search needs)
+    (λ c. search needs)
     returns)

@@ -39,19 +39,20 @@ use denote.Triple.Table.{entered, cited}
 use denote.Triple.Walked.{says, Stays, stay-dropped, gave-slice, gave-ref, walkOf, goes-dropped, goes-gave-slice, goes-gave-ref, Walks, ends-at, walked, walk-meets}
 use denote.Triple.Clauses.{ensured, Lasts, lasts}
 use denote.Exit.{yes}
-use Rattle.bank.specs.Rows.{rowsOf}
+use Rattle.sizes.specs.Meaning.{listsOctets}
+use Rattle.bank.specs.Meaning.{rowsOf, bankWords}
 use Rattle.filter.specs.declared.Filter.{Filter}
 use Rattle.filter.proofs.Filter as T
 use Rattle.verdict.specs.declared.Answer.{Answer}
 use Rattle.verdict.proofs.Answer as Q
 use Rattle.verdict.proofs.Answer.Laws as Q′
-use Rattle.stage.specs.Take.{bridge, took, takeOf}
+use Rattle.stage.specs.Meaning.{bridge, took, takeOf}
 use Rattle.stage.proofs.take as take
 use Rattle.stage.proofs.take.Symbol as take-def
 use Rattle.stage.proofs.take.Symbol.{name as #stage·take}
 use Rattle.stage.proofs.take.Met as take-thm
 use Rattle.transomrib.specs.declared.Reply.{Reply}
-use Rattle.transomrib.specs.Reply.{replyOf, replied, repliedBy, repliedOf}
+use Rattle.transomrib.specs.Meaning.{replyOf, replied, repliedBy, repliedOf}
 use Rattle.transomrib.proofs.Reply as S
 use Rattle.transomrib.proofs.Reply.Laws as S′
 use Rattle.transomrib.proofs.spelled as spelled
@@ -67,16 +68,16 @@ abbrev R : RattleType
 R = T.the-row
 
 abbrev Ws : RattleType
-Ws = Array u64 1480
+Ws = Array u64 bankWords
 
 abbrev Ls : RattleType
-Ls = Array u8 1408
+Ls = Array u8 listsOctets
 
 abbrev bank-slot : {n : ℕ} → Slot n
-bank-slot = B.ArrayOf (plain (λ _. u64)) (λ _. tt) 1480
+bank-slot = B.ArrayOf (plain (λ _. u64)) (λ _. tt) bankWords
 
 abbrev lists-slot : {n : ℕ} → Slot n
-lists-slot = B.ArrayOf (plain (λ _. u8)) (λ _. tt) 1408
+lists-slot = B.ArrayOf (plain (λ _. u8)) (λ _. tt) listsOctets
 
 abbrev input-slot : Slot 4
 input-slot = B.SliceRefOf (3 ∷ []) tt (plain (λ _. u8)) (λ _. tt)

@@ -5,23 +5,20 @@ use mathlib.Core.Bool.{true}
 use borrow.Author.Needs.{needs}
 use borrow.Author.Tests.{not-true, not-false}
 use native.Mathlib.Omega.{arith}
-use Rattle.bucket.specs.Bucket.{grains}
+use Rattle.bucket.specs.Meaning.{grains}
 use Rattle.meter.specs.declared.Meter.{Meter}
-use Rattle.meter.specs.Meter.{inRangeOf, paintedOf}
+use Rattle.meter.specs.Meaning.{meterInRange, paintedOf}
 use Rattle.meter.specs.Range.{InRange, in-range}
 use Rattle.meter.specs.Cases.{colour-out-of-range, colour-too-early, colour-painted}
 use Rattle.meter.proofs.Meter.colour.Statement.{statement}
 use Rattle.meter.proofs.Meter.colour.Tie as tie
 
 -- what the range test tells
-passed : (c : tie.Else1) → let a = c .before .before .args in inRangeOf (a .self) (a .time) (a .msdu) ≡ true
+passed : (c : tie.Else1) → let a = c .before .before .args in meterInRange (a .self) (a .time) (a .msdu) ≡ true
 passed c = sym (c .before .in-range .ensures) ∙ not-false _ (c .if1 .left)
 
 range : (c : tie.Else1) → let a = c .before .before .args in InRange (a .self) (a .time) (a .msdu)
 range c = let a = c .before .before .args in in-range (a .self) (a .time) (a .msdu) (passed c)
-
-in-range-requires : tie.Need-in-range-requires
-in-range-requires c κs = search needs
 
 returns : tie.Need-returns
 returns c =
@@ -33,17 +30,11 @@ returns-2 c =
     let a = c .before .before .before .before .args in
     sym (colour-too-early (a .self) (a .time) (a .msdu) (a .drop-eligible) (passed (c .before .before)) (c .if2 .taken))
 
-cast-need : tie.Need-cast-need
-cast-need c = search needs
-
 mul-need : tie.Need-mul-need
 mul-need c = let k = range (c .before .before .before) in omega (arith, k)
 
 fill-requires : tie.Need-fill-requires
 fill-requires c κs = record { sound = range (c .before .before .before) .sound; later = c .before .if2 .left }
-
-paint-requires : tie.Need-paint-requires
-paint-requires c κs = search needs
 
 returns-3 : tie.Need-returns-3
 returns-3 c =
@@ -55,11 +46,11 @@ pub colour-spec : {M : Type 1} → statement M
 colour-spec =
     tie.close
     (tie.spec
-    in-range-requires
+    (λ c κs. search needs)
     returns
     returns-2
-    cast-need
+    (λ c. search needs)
     mul-need
     fill-requires
-    paint-requires
+    (λ c κs. search needs)
     returns-3)

@@ -4,59 +4,17 @@ use Prim.Native.Nat.{ℕ, _+_, _-_, _*_, min}
 use mathlib.Core.Path.{_∙_, ap}
 use borrow.Author.Needs.{needs}
 use native.Mathlib.Omega.{arith}
-use Rattle.bucket.specs.Bucket.{grains}
-use Rattle.meter.specs.Meter.{spilt}
+use Rattle.bucket.specs.Meaning.{grains}
+use Rattle.meter.specs.Meaning.{spilt}
 use Rattle.meter.specs.Fill.{spilt-less, fill-committed, fill-excess, filled-is}
 use Rattle.meter.proofs.Meter.fill.Statement.{statement}
 use Rattle.meter.proofs.Meter.fill.Tie as tie
-
-sub-d : tie.Need-sub-d
-sub-d c = search needs
-
-cast-cbs : tie.Need-cast-cbs
-cast-cbs c = search needs
-
-mul-cbs : tie.Need-mul-cbs
-mul-cbs c = search needs
-
-cast-ebs : tie.Need-cast-ebs
-cast-ebs c = search needs
-
-mul-ebs : tie.Need-mul-ebs
-mul-ebs c = search needs
-
-add-grow : tie.Need-add-grow
-add-grow c = search needs
-
-grow-requires : tie.Need-grow-requires
-grow-requires c κs = search needs
-
-add-committed : tie.Need-add-committed
-add-committed c = search needs
-
-grow-requires-2 : tie.Need-grow-requires-2
-grow-requires-2 c κs = search needs
-
-add-own : tie.Need-add-own
-add-own c = search needs
-
-beyond-requires : tie.Need-beyond-requires
-beyond-requires c κs = search needs
-
-spill-requires : tie.Need-spill-requires
-spill-requires c κs = search needs
 
 add-excess : tie.Need-add-excess
 add-excess c =
     let m = c .before .before .before .before .before .before .before .before .before .before .before .args .self in
     let k = c .before .before .before .before .before .before .before .before .before .before .before .pre .sound in
     omega (arith, k, spilt-less (m .coupling) (c .before .beyond .result), c .spill .ensures, c .before .beyond .ensures, c .before .before .before .grow2 .ensures, c .before .before .before .before .before .grow .ensures)
-
-lesser-requires : tie.Need-lesser-requires
-lesser-requires c κs = search needs
-
-lesser-requires-2 : tie.Need-lesser-requires-2
-lesser-requires-2 c κs = search needs
 
 returns : tie.Need-returns
 returns c =
@@ -77,19 +35,19 @@ pub fill-spec : {M : Type 1} → statement M
 fill-spec =
     tie.close
     (tie.spec
-    sub-d
-    cast-cbs
-    mul-cbs
-    cast-ebs
-    mul-ebs
-    add-grow
-    grow-requires
-    add-committed
-    grow-requires-2
-    add-own
-    beyond-requires
-    spill-requires
+    (λ c. search needs)
+    (λ c. search needs)
+    (λ c. search needs)
+    (λ c. search needs)
+    (λ c. search needs)
+    (λ c. search needs)
+    (λ c κs. search needs)
+    (λ c. search needs)
+    (λ c κs. search needs)
+    (λ c. search needs)
+    (λ c κs. search needs)
+    (λ c κs. search needs)
     add-excess
-    lesser-requires
-    lesser-requires-2
+    (λ c κs. search needs)
+    (λ c κs. search needs)
     returns)

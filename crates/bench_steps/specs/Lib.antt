@@ -1,0 +1,4 @@
+pub mod Words
+pub mod Scheduler
+pub mod Meter
+pub mod Gate

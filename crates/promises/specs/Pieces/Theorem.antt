@@ -1,0 +1,116 @@
+-- An input of many records may come in pieces, wherever they are cut. No octet past a record is looked at, so that only a record that is cut short
+-- has to wait, with its octets before those of the next piece: that is how `stream` hands the input of the programs on.
+use Prim.Native.Nat.{ℕ, zero, suc, _+_, _≤_}
+use mathlib.Core.Bool.{Bool, true, false, cond}
+use mathlib.Core.List.{List, [], _∷_, _++_}
+use mathlib.Core.Logic.{_≢_}
+use mathlib.Core.Path.{_≡_, refl, sym, ap, subst, _∙_}
+use native.Mathlib.Omega.{arith}
+use lib.Dec.{eqb, ltb}
+use lib.ListN.{length, drop, length-drop, List·getD-append}
+use lib.Seq.{drop-append-le}
+use Rattle.sizes.specs.Meaning.{filterCount, entryCount}
+use Rattle.record.specs.declared.Record.{Record}
+use Rattle.record.specs.declared.Refusal.{Refusal}
+use Rattle.record.specs.declared.Refusal.the-variants.{CutShort, NinthEntry, TableLength}
+use Rattle.record.specs.declared.Reading.{Reading}
+use Rattle.record.specs.Meaning.{readOf, recordLength}
+use Rattle.record.specs.Laws.{read-uses, read-extends}
+use Rattle.record.specs.Ranges.{Ranged, read-ranges}
+use Rattle.bank.specs.Meaning.{store, entries, withEntries}
+use Rattle.verdict.specs.declared.Answer.{Answer}
+use Rattle.verdict.specs.declared.Verdict.{Verdict}
+use Rattle.verdict.specs.declared.Verdict.the-variants.{Refused, Taken, Passed, Dropped}
+use Rattle.setup.specs.Meaning.{entryBodyOf, addEntryOf, listed as listedTold, entryPlace}
+use Rattle.stage.specs.Meaning.{Bridge, Took, refusedOf, listsTook, readBy, startedOf, takeOf}
+use Rattle.promises.specs.Refusals.Meaning.{NoRefusal}
+use Rattle.promises.specs.Refusals.Keeps.{Done, banks, lists, places, done-way, taken-uses-whole}
+use Rattle.promises.specs.Pieces.Meaning.{Input, Ended, ends, takes}
+use Rattle.promises.specs.Meaning.{Call}
+use Rattle.record.specs.declared.Record.the-variants as kind
+use Rattle.record.specs.declared.Reading.the-variants as reading
+
+-- ---- no octet past the record is looked at
+
+-- a gate entry's body is that of its own octets
+body-extends : (s t : List ℕ) → 12 ≤ length s → entryBodyOf (s ++ t) ≡ entryBodyOf s
+body-extends s t h =
+    let at : (k : ℕ) → k ≤ 11 → _ = λ k l. List·getD-append s t 0 k (omega (arith, h, l)) in
+    rw (at 1 (omega arith), at 2 (omega arith), at 3 (omega arith), at 4 (omega arith), at 5 (omega arith), at 6 (omega arith), at 7 (omega arith), at 8 (omega arith), at 9 (omega arith), at 10 (omega arith), at 11 (omega arith))
+
+module _ (b : Bridge) (s t : List ℕ) where
+  done-extends : (r : Record) (used : ℕ) (o : Call → Took) → Done b used r o → Ranged r used → used ≤ length s → o (s ++ t) ≡ o s
+  unfolding addEntryOf
+  done-extends r used o (banks x keeps) k h = refl
+  done-extends r used o (lists x) k h =
+      let n = entries (b .bank) (x .gate) in
+      ap
+      (λ (body : List ℕ). listsTook b used (cond (ltb n entryCount) (listedTold (withEntries (b .bank) (x .gate) (n + 1)) (store (b .lists) (entryPlace (x .gate) n) 0 body) Taken) (listedTold (b .bank) (b .lists) (Refused NinthEntry))))
+      (body-extends s t (omega (arith, k .0, h)))
+  done-extends r used o (places full table) k h = refl
+
+  reading-extends : (rd : Reading) → readOf s (startedOf (b .bank)) ≡ rd → readBy b (s ++ t) rd ≡ readBy b s rd
+  unfolding readBy
+  reading-extends (reading.Refused why) e = refl
+  reading-extends (reading.Taken r used) e = done-extends r used _ (done-way b r used) (read-ranges s (startedOf (b .bank)) r used e) (read-uses s (startedOf (b .bank)) r used e .1)
+
+  table-extends : (full : Bool) → cond full (readBy b s (readOf s (startedOf (b .bank)))) (refusedOf b TableLength) .answer .verdict ≢ Refused CutShort
+      → cond full (readBy b (s ++ t) (readOf (s ++ t) (startedOf (b .bank)))) (refusedOf b TableLength) ≡ cond full (readBy b s (readOf s (startedOf (b .bank)))) (refusedOf b TableLength)
+  unfolding readBy
+  table-extends true n =
+      ap (readBy b (s ++ t)) (read-extends s t (startedOf (b .bank)) (λ e. n (ap (λ (rd : Reading). readBy b s rd .answer .verdict) e))) ∙ reading-extends (readOf s (startedOf (b .bank))) refl
+  table-extends false n = refl
+
+  -- what is not cut short is answered alike, and does the same, whatever octets follow it
+  pub take-extends : takeOf b s .answer .verdict ≢ Refused CutShort → takeOf b (s ++ t) ≡ takeOf b s
+  unfolding takeOf
+  take-extends = table-extends (eqb (length (b .table)) filterCount)
+
+-- ---- an input, record by record
+
+-- a record that is taken uses an octet at least, and none that isn't there
+uses-some : (b : Bridge) (s : List ℕ) (o : Took) → takeOf b s ≡ o → NoRefusal (o .answer .verdict) → (1 ≤ o .answer .used) × (o .answer .used ≤ length s)
+uses-some b s o e h =
+    let u = taken-uses-whole b s (λ why q. h why (ap (λ (x : Took). x .answer .verdict) (sym e) ∙ q)) in
+    let used : o .answer .used ≡ recordLength (u .kind-said) = ap (λ (x : Took). x .answer .used) (sym e) ∙ u .whole in
+    let some = read-uses s (startedOf (b .bank)) (u .said) (u .length-said) (u .reads) in
+    (omega (arith, used, u .whole-said, some .0), omega (arith, used, u .whole-said, some .1))
+
+module _ (b : Bridge) (s : List ℕ) where
+  by-verdict : (v : Verdict) → takeOf b s .answer .verdict ≡ v → (NoRefusal (takeOf b s .answer .verdict) → Ended b s) → Ended b s
+  by-verdict (Refused why) e more = record { answers = []; after = b; rest = s; why = why; is = ends e }
+  by-verdict Taken e more = more (λ why q. absurd (let z : _≡_ {A = ℕ} 0 1 = cc in omega arith))
+  by-verdict (Passed p) e more = more (λ why q. absurd (let z : _≡_ {A = ℕ} 0 1 = cc in omega arith))
+  by-verdict (Dropped d) e more = more (λ why q. absurd (let z : _≡_ {A = ℕ} 0 1 = cc in omega arith))
+
+  goes-on : NoRefusal (takeOf b s .answer .verdict) → Ended (takeOf b s .after) (drop (takeOf b s .answer .used) s) → Ended b s
+  goes-on h more = record { answers = takeOf b s .answer ∷ more .answers; after = more .after; rest = more .rest; why = more .why; is = takes (takeOf b s) refl h (more .is) }
+
+ends-within : (n : ℕ) (b : Bridge) (s : List ℕ) → length s ≤ n → Ended b s
+ends-within zero b s l = by-verdict b s (takeOf b s .answer .verdict) refl (λ h. absurd (let u = uses-some b s (takeOf b s) refl h in omega (arith, l, u .0, u .1)))
+ends-within (suc n) b s l =
+    by-verdict b s (takeOf b s .answer .verdict) refl
+    (λ h. goes-on b s h (ends-within n (takeOf b s .after) (drop (takeOf b s .answer .used) s) (omega (arith, l, uses-some b s (takeOf b s) refl h .0, length-drop (takeOf b s .answer .used) s))))
+
+pub input-ends : (b : Bridge) (s : List ℕ) → Ended b s
+input-ends b s = ends-within (length s) b s (omega arith)
+
+-- where a piece s ends in a record that is cut short, and what is left of it goes before the next piece t, the answers and the bridge are those of
+-- s ++ t at once
+pub piece-by-piece : (t : List ℕ) {b b′ b″ : Bridge} {s rest rest′ : List ℕ} {answers answers′ : List Answer} {why : Refusal} → Input b s answers b′ rest CutShort → Input b′ (rest ++ t) answers′ b″ rest′ why
+    → Input b (s ++ t) (answers ++ answers′) b″ rest′ why
+piece-by-piece t (ends e) more = more
+piece-by-piece t {b = b} {b″ = b″} {s = s} {rest′ = rest′} {answers′ = answers′} {why = why} (takes {answers = answers} o e h first) more =
+    takes o (take-extends b s t (λ q. h CutShort (ap (λ (x : Took). x .answer .verdict) (sym e) ∙ q)) ∙ e) h
+    (subst (λ (u : List ℕ). Input (o .after) u (answers ++ answers′) b″ rest′ why) (sym (drop-append-le (o .answer .used) s t (uses-some b s o e h .1))) (piece-by-piece t first more))
+
+-- and no other answers, bridge or end are those of the input
+pub one-input : {b b′ b″ : Bridge} {s rest rest′ : List ℕ} {answers answers′ : List Answer} {why why′ : Refusal} → Input b s answers b′ rest why → Input b s answers′ b″ rest′ why′
+    → (answers ≡ answers′) × ((b′ ≡ b″) × ((rest ≡ rest′) × (why ≡ why′)))
+one-input (ends e) (ends e′) = let same : Refused _ ≡ Refused _ = sym e ∙ e′ in (refl, (refl, (refl, cc)))
+one-input (ends e) (takes o q h more) = absurd (h _ (ap (λ (x : Took). x .answer .verdict) (sym q) ∙ e))
+one-input (takes o q h more) (ends e) = absurd (h _ (ap (λ (x : Took). x .answer .verdict) (sym q) ∙ e))
+one-input {b″ = b″} {s = s} {rest′ = rest′} {why′ = why′} (takes o q h more) (takes {answers = answers′} o′ q′ h′ more′) =
+    let same : o′ ≡ o = sym q′ ∙ q in
+    let rest = one-input more (subst (λ (x : Took). Input (x .after) (drop (x .answer .used) s) answers′ b″ rest′ why′) same more′) in
+    (ap (λ (all : List Answer). o .answer ∷ all) (rest .0) ∙ ap (λ (x : Took). x .answer ∷ answers′) (sym same), rest .1)
