@@ -4,16 +4,19 @@
 # compare       every case and random streams through the programs, the C library and the second program
 # bench         nanoseconds beside plain Rust, as ratios
 # check-second  the second program's own tests;  check-example  the C example, plain and under the compiler's checks
-.PHONY: run test lib compare bench check-second check-example second programs
+# check-sizes   the sizes of the code, the definitions, the header and the tests: one size, one number
+.PHONY: run test lib compare bench check-second check-example check-sizes second programs
 
 CARGO = cargo --quiet
 SECOND = target/second/release
+PROGRAMS = target/x86-64
+WITH = tools/x86-64 with ingress report records --
 export CARGO_TARGET_DIR = $(CURDIR)/target/second
 
 run:
 	@echo 'proving and building ingress: some minutes the first time' >&2
 	@rt check ingress >/dev/null
-	@target/bin/ingress <crates/ingress/stdin
+	@tools/x86-64 run target/bin/ingress <crates/ingress/stdin
 
 test:
 	@.ci/run
@@ -33,12 +36,16 @@ check-second:
 check-example: lib
 	@examples/run.sh
 
+check-sizes:
+	@.ci/sizes
+
 compare: second programs lib
 	@mkdir -p target/tests
-	@rustc --edition 2021 -O tests/library.rs --extern second=$(SECOND)/libsecond.rlib -L target/staticlib -l static=transomrib -o target/tests/library
-	@target/tests/library
-	@$(SECOND)/compare --ingress target/bin/ingress --report target/bin/report --records target/bin/records --cases cases
-	@$(SECOND)/compare --bursts --ingress target/bin/ingress --report target/bin/report
+	@tools/x86-64 rustc --edition 2021 -O -C overflow-checks --crate-name second --crate-type rlib second/src/lib.rs -o target/tests/libsecond.rlib
+	@tools/x86-64 rustc --edition 2021 -O tests/library.rs --extern second=target/tests/libsecond.rlib -L target/staticlib -l static=transomrib -o target/tests/library
+	@tools/x86-64 run target/tests/library
+	@$(WITH) $(SECOND)/compare --ingress $(PROGRAMS)/ingress --report $(PROGRAMS)/report --records $(PROGRAMS)/records --cases cases
+	@$(WITH) $(SECOND)/compare --bursts --ingress $(PROGRAMS)/ingress --report $(PROGRAMS)/report
 
 bench: second
 	@bench/run.sh

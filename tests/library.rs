@@ -2,7 +2,7 @@
 // length. Every answer is compared, and every counter and flag after each stream. The last line says how many calls were alike.
 mod proved;
 
-use proved::{numbers, Proved, Row};
+use proved::{numbers, Proved, Row, ROWS};
 use second::bridge::Bridge;
 use second::fields;
 use second::filter::Filter;
@@ -45,7 +45,7 @@ fn main() {
 
 /// A row gets another field, the same in both tables.
 fn spoil(random: &mut Random, a: &mut Proved, table: &mut [Filter]) {
-    let place = random.below(64) as usize;
+    let place = random.below(ROWS as u64) as usize;
     let row = &mut table[place];
     let octet = random.below(256) as u8;
     match random.below(8) {
@@ -63,7 +63,7 @@ fn spoil(random: &mut Random, a: &mut Proved, table: &mut [Filter]) {
 
 /// A table of another length is refused with 11, and nothing changes.
 fn wrong_length(random: &mut Random, a: &mut Proved, b: &mut Bridge, input: &[u8], refusals: &mut [u64; 12]) {
-    let length = [0, 1, 63, 65, 256][random.below(5) as usize];
+    let length = [0, 1, ROWS - 1, ROWS + 1, 256][random.below(5) as usize];
     let whole = a.table.clone();
     a.table.resize(length, Row::default());
     let before = a.clone();
@@ -85,7 +85,7 @@ fn skipped(input: &[u8]) -> usize {
 }
 
 fn same_state(a: &Proved, b: &Bridge, seed: u64, stream: u64) {
-    for n in 0..64 {
+    for n in 0..ROWS as u32 {
         let c = b.counters(n as usize);
         let theirs = [
             c.matching_frames,

@@ -80,11 +80,13 @@ impl Gate {
             return Err(GateDrop::Closed);
         }
         if let Some((interval, left)) = now.limit {
-            let Some(after) = left.checked_sub(msdu.into()) else {
-                self.octets = record.octets_block;
-                return Err(GateDrop::OctetsExceeded);
-            };
-            self.octets_left = Some((interval, after));
+            match left.checked_sub(msdu.into()) {
+                Some(after) => self.octets_left = Some((interval, after)),
+                None => {
+                    self.octets = record.octets_block;
+                    return Err(GateDrop::OctetsExceeded);
+                }
+            }
         }
         Ok(now.ipv)
     }

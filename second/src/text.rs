@@ -171,8 +171,9 @@ fn error_at(word: Word, expected: String) -> TextError {
 
 fn assemble_line(line: &str) -> Result<Vec<u8>, TextError> {
     let mut words = Words::of(line);
-    let Some(name) = words.next() else {
-        return Ok(Vec::new());
+    let name = match words.next() {
+        Some(name) => name,
+        None => return Ok(Vec::new()),
     };
     if name.text == "octets" {
         return plain_octets(&mut words);

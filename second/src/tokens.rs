@@ -41,6 +41,6 @@ impl Tokens {
 
     /// The whole nanoseconds the rate needs to add at least this; not rate 0.
     pub fn nanoseconds_to_grow(self, rate: Rate) -> u128 {
-        self.0.div_ceil(u128::from(rate.0))
+        (self.0 + u128::from(rate.0) - 1) / u128::from(rate.0)
     }
 }

@@ -209,8 +209,8 @@ impl Bridge {
 
     fn names_what_is_set_up(&self, row: &Filter) -> bool {
         self.gates[usize::from(row.gate)].record.is_some()
-            && row.meter().is_none_or(|meter| self.meters[meter].is_some())
-            && row.scheduler().is_none_or(|id| self.schedulers[id].is_some())
+            && row.meter().map_or(true, |meter| self.meters[meter].is_some())
+            && row.scheduler().map_or(true, |id| self.schedulers[id].is_some())
     }
 
     fn lists_and_schedulers_whole(&self) -> bool {
@@ -222,10 +222,11 @@ impl Bridge {
     /// Whether the largest frame the filter lets through fits its scheduler's
     /// bucket, for a row that names what is set up.
     fn burst_suffices(&self, row: &Filter) -> bool {
-        let Some(scheduler) = row.scheduler().and_then(|id| self.schedulers[id]) else {
-            return true;
+        let scheduler = match row.scheduler().and_then(|id| self.schedulers[id]) {
+            Some(scheduler) => scheduler,
+            None => return true,
         };
-        row.max_sdu().is_some_and(|max_sdu| {
+        row.max_sdu().map_or(false, |max_sdu| {
             u32::from(max_sdu) + u32::from(self.largest_overhead()) <= scheduler.burst.0
         })
     }
@@ -281,7 +282,7 @@ impl Bridge {
     }
 
     pub fn red(&self, meter: usize) -> bool {
-        self.meters[meter].is_some_and(|meter| meter.red)
+        self.meters[meter].map_or(false, |meter| meter.red)
     }
 
     pub fn discarded_frames(&self, port: usize) -> u64 {

@@ -17,7 +17,7 @@ impl Bridge {
         table: &[Filter],
         arrival: Arrival,
     ) -> Result<Outcome, Refusal> {
-        if self.last_arrival.is_some_and(|last| arrival.time < last) {
+        if self.last_arrival.map_or(false, |last| arrival.time < last) {
             return Err(Refusal::TimeGoesBack);
         }
         self.last_arrival = Some(arrival.time);
@@ -25,10 +25,11 @@ impl Bridge {
     }
 
     fn police(&mut self, table: &[Filter], arrival: &Arrival) -> Verdict {
-        let Some(id) = self.first_match(table, arrival.handle, arrival.priority) else {
-            return Verdict::Pass(self.pass(arrival.priority, arrival.drop_eligible, None));
+        let policed = match self.first_match(table, arrival.handle, arrival.priority) {
+            Some(id) => self.filtered(id, &table[id], arrival),
+            None => Ok(self.pass(arrival.priority, arrival.drop_eligible, None)),
         };
-        match self.filtered(id, &table[id], arrival) {
+        match policed {
             Ok(pass) => Verdict::Pass(pass),
             Err(drop) => Verdict::Drop(drop),
         }
@@ -55,7 +56,7 @@ impl Bridge {
         count(&mut counters.matching_frames);
         let result = if block && *oversize {
             Err(Drop::OversizeFlag)
-        } else if row.max_sdu().is_some_and(|max_sdu| arrival.msdu > max_sdu) {
+        } else if row.max_sdu().map_or(false, |max_sdu| arrival.msdu > max_sdu) {
             *oversize |= block;
             Err(Drop::Oversize)
         } else {
@@ -84,8 +85,9 @@ impl Bridge {
 
     /// Gives the frame's drop mark.
     fn meter_step(&mut self, id: usize, row: &Filter, arrival: &Arrival) -> Result<bool, Drop> {
-        let Some(meter) = row.meter().and_then(|meter| self.meters[meter].as_mut()) else {
-            return Ok(arrival.drop_eligible);
+        let meter = match row.meter().and_then(|meter| self.meters[meter].as_mut()) {
+            Some(meter) => meter,
+            None => return Ok(arrival.drop_eligible),
         };
         let (after, colour) = meter
             .take(arrival.time, arrival.msdu, arrival.drop_eligible)
@@ -106,8 +108,9 @@ impl Bridge {
     /// Gives the eligibility time, if a scheduler is named.
     fn scheduler_step(&mut self, row: &Filter, arrival: &Arrival) -> Result<Option<u64>, Drop> {
         let length = Octets(u32::from(arrival.msdu) + u32::from(self.overhead(arrival.port)));
-        let Some(scheduler) = row.scheduler().and_then(|id| self.schedulers[id].as_mut()) else {
-            return Ok(None);
+        let scheduler = match row.scheduler().and_then(|id| self.schedulers[id].as_mut()) {
+            Some(scheduler) => scheduler,
+            None => return Ok(None),
         };
         let group =
             self.groups[usize::from(scheduler.group)].as_mut().expect("start saw the group");

@@ -166,8 +166,9 @@ fn burst_too_small(random: &mut Random, records: &mut [Plain]) {
 fn back_in_time(random: &mut Random, records: &mut Vec<Plain>) {
     let places: Vec<usize> =
         (0..records.len()).filter(|&place| records[place].is(KIND_ARRIVAL)).collect();
-    let Some(&earlier) = places.get(random.place(&places)) else {
-        return;
+    let earlier = match places.get(random.place(&places)) {
+        Some(&earlier) => earlier,
+        None => return,
     };
     let mut back = records[earlier].clone();
     // At time 0 nothing can go back: move on by one first.

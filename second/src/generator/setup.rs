@@ -203,7 +203,7 @@ impl Drawing<'_> {
         let burst = scheduler_burst(&self.records, id);
         let room = burst.saturating_sub(largest_overhead(&self.records)).min(SDU_MAX);
         if room > 0 && !self.random.one_in(3) {
-            let max_sdu = self.number(1, room, (room.div_ceil(2), room));
+            let max_sdu = self.number(1, room, (room - room / 2, room));
             return (max_sdu, Some(id));
         }
         let some = self.number(1, SDU_MAX, (1, 30));
