@@ -53,7 +53,7 @@ int main(void) {
         struct transomrib_reply r = transomrib_take(table, TRANSOMRIB_ROWS, bank, lists, input + at, filled - at);
         if (r.verdict == TRANSOMRIB_REFUSED) {
             printf("refused %d at %zu\n", r.number, at);
-            break;
+            return 1;
         }
         if (r.verdict == TRANSOMRIB_DROPPED)
             printf("%d drop %d\n", ++arrivals, r.number);

@@ -43,12 +43,13 @@ fn main() {
     println!("library: {STREAMS} streams, {calls} calls, refusals 1 to 11 {:?}, all alike", &refusals[1..]);
 }
 
-/// A row gets another field, the same in both tables.
+/// A row gets another field, the same in both tables; the field `used`, which the second program's rows do not have, makes the place empty or puts the
+/// row that stands there to use.
 fn spoil(random: &mut Random, a: &mut Proved, table: &mut [Filter]) {
     let place = random.below(ROWS as u64) as usize;
-    let row = &mut table[place];
+    let row = &mut a.table[place];
     let octet = random.below(256) as u8;
-    match random.below(8) {
+    match random.below(9) {
         0 => row.any_handle = octet,
         1 => row.handle = random.below(16) as u32,
         2 => row.priority = octet % 12,
@@ -56,9 +57,10 @@ fn spoil(random: &mut Random, a: &mut Proved, table: &mut [Filter]) {
         4 => row.max_sdu = random.below(2100) as u16,
         5 => row.oversize_block = octet % 3,
         6 => row.meter = octet,
-        _ => row.scheduler = octet,
+        7 => row.scheduler = octet,
+        _ => row.used = [0, 1, 2, octet][random.below(4) as usize],
     }
-    a.table[place] = Row::of(row);
+    table[place] = row.filter();
 }
 
 /// A table of another length is refused with 11, and nothing changes.

@@ -25,18 +25,20 @@ pub struct Row {
 }
 
 impl Row {
-    /// The row of a filter with these fields, in range or not.
-    pub fn of(filter: &Filter) -> Row {
-        Row {
-            handle: filter.handle,
-            max_sdu: filter.max_sdu,
-            used: 1,
-            any_handle: filter.any_handle,
-            priority: filter.priority,
-            gate: filter.gate,
-            oversize_block: filter.oversize_block,
-            meter: filter.meter,
-            scheduler: filter.scheduler,
+    /// What the second program has for it: a row that isn't used is an empty place there.
+    pub fn filter(&self) -> Filter {
+        if self.used != 1 {
+            return Filter::EMPTY;
+        }
+        Filter {
+            any_handle: self.any_handle,
+            handle: self.handle,
+            priority: self.priority,
+            gate: self.gate,
+            max_sdu: self.max_sdu,
+            oversize_block: self.oversize_block,
+            meter: self.meter,
+            scheduler: self.scheduler,
         }
     }
 }

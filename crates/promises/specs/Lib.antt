@@ -1,4 +1,5 @@
 pub mod Meaning
+pub mod Zeros
 pub mod Refusals
 pub mod Flags
 pub mod Counters
