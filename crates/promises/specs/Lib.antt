@@ -1,5 +1,6 @@
 pub mod Meaning
 pub mod Zeros
+pub mod Imposters
 pub mod Refusals
 pub mod Flags
 pub mod Counters
