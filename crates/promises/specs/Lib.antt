@@ -2,6 +2,7 @@ pub mod Meaning
 pub mod Zeros
 pub mod Imposters
 pub mod Refusals
+pub mod Past
 pub mod Flags
 pub mod Counters
 pub mod Ways

@@ -209,6 +209,13 @@ row-first n zero (t ∷ ts) a h = ap (λ (u : Bool). cond u (t .number) (firstHo
 row-first n (suc k) (t ∷ ts) a h =
     ap (λ (u : Bool). cond u (t .number) (firstHolding ts)) (h .0) ∙ row-first n k ts (both (not (eqb (t .number) n)) (alone n k ts) a .1) (h .1)
 
+-- of any table
+pub first-given : (n k : ℕ) (ts : List Try) → alone n k ts ≡ true → (firstHolding ts ≡ n) ↔ StandsFirst k ts
+first-given n k ts a = (first-row n k ts a, row-first n k ts a)
+
+pub none-given : (n : ℕ) (ts : List Try) → absent n ts ≡ true → firstHolding ts ≢ n
+none-given = never-first
+
 module _ (b : Bridge) (c : Call) where
   given : (n k : ℕ) → alone n k (triesOf b c) ≡ true → (refusalOf b c ≡ n) ↔ StandsFirst k (triesOf b c)
   given n k a = (λ e. first-row n k (triesOf b c) a (sym (refusal-by-table b c) ∙ e), λ h. refusal-by-table b c ∙ row-first n k (triesOf b c) a h)
