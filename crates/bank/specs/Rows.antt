@@ -42,6 +42,15 @@ module _ {A : Type 0} (f : List ℕ → A) (s : Rows) (r : ℕ) (vs : List ℕ) 
   pub row-kept : (q : ℕ) → f (withRow s r vs q) ≡ f (s q)
   row-kept q = at-kept q (ℕ-discrete q r)
 
+-- what holds of a row and of what is stored holds of the row after the store
+module _ (P : List ℕ → Type 0) (s : Rows) (r : ℕ) (vs : List ℕ) (h : P vs) where
+  at-held : (q : ℕ) → P (s q) → Dec (q ≡ r) → P (withRow s r vs q)
+  at-held q k (yes e) = rw (e, row-same s r vs) h
+  at-held q k (no n) = rw (row-other s r vs q n) k
+
+  pub row-holds : (q : ℕ) → P (s q) → P (withRow s r vs q)
+  row-holds q k = at-held q k (ℕ-discrete q r)
+
 -- a store of a whole row at row r
 abbrev pub putRow : List ℕ → ℕ → List ℕ → List ℕ
 putRow ws r vs = store ws (r * rowWords) 0 vs

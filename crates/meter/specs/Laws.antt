@@ -12,7 +12,8 @@ use Rattle.bucket.specs.declared.Rate.{Rate}
 use Rattle.bucket.specs.declared.Octets.{Octets}
 use Rattle.meter.specs.declared.Meter.{Meter}
 use Rattle.meter.specs.declared.Metered.{Metered}
-use Rattle.meter.specs.declared.Outcome.the-variants.{Red, OutOfRange, TooEarly}
+use Rattle.meter.specs.declared.Outcome.{Outcome}
+use Rattle.meter.specs.declared.Outcome.the-variants.{Green, Yellow, YellowDropped, Red, OutOfRange, TooEarly}
 use Rattle.meter.specs.Meaning.{freshMeterOf, meterHolding, spilt, filledOf, paintedOf, colourOf, meterInRange, paintedGreen, paintedYellow, paintedRed, paintedStopped, meterRefused, yellowOutcome, meterNumberOf}
 use Rattle.meter.specs.Range.{Sound, InRange, in-range, in-range-back}
 use Rattle.meter.specs.Cases.{takes}
@@ -86,6 +87,27 @@ module _ (m : Meter) (time : ℕ) (msdu : Octets) (eligible : Bool) where
   pub colour-is : Coloured m time msdu eligible (colourOf m time msdu eligible)
   unfolding colourOf
   colour-is = taken-is _ _ refl refl
+
+-- what is painted has one of the colours: no meter that takes a frame refuses it
+pub data Colour : Outcome → Type 0 where
+  green : Colour Green
+  yellow : Colour Yellow
+  yellow-dropped : Colour YellowDropped
+  red : Colour Red
+
+yellow-colour : (t : Bool) → Colour (yellowOutcome t)
+yellow-colour true = yellow-dropped
+yellow-colour false = yellow
+
+pub painted-colour : (m : Meter) (need : ℕ) (eligible : Bool) → Colour (paintedOf m need eligible .outcome)
+unfolding paintedOf
+painted-colour m need eligible = by-tests (m .«red_flag») (takes m need eligible) (leb need (m .excess))
+  where
+    by-tests : (flag taken enough : Bool) → Colour (cond flag (paintedStopped m) (cond taken (paintedGreen m need) (cond enough (paintedYellow m need) (paintedRed m))) .outcome)
+    by-tests true taken enough = red
+    by-tests false true enough = green
+    by-tests false false true = yellow-colour (m .«drop_on_yellow»)
+    by-tests false false false = red
 
 -- a meter whose numbers are in range keeps them so: no bucket is ever above its burst
 filled-sound : (m : Meter) (time : ℕ) → Sound m → time ≤ 2 ^ 62 → Sound (filledOf m time)

@@ -12,3 +12,4 @@ pub mod Starred
 pub mod Single
 pub mod Pieces
 pub mod Bursts
+pub mod Sound

@@ -1,13 +1,15 @@
 -- The cases of the definitions in Setup, each from the facts that a function has in hand.
-use Prim.Native.Nat.{ℕ, _+_, _≤_, _<_}
+use Prim.Native.Nat.{ℕ, zero, suc, _+_, _≤_, _<_}
 use mathlib.Core.Bool.{Bool, true, false, _||_}
 use mathlib.Core.List.{List}
-use mathlib.Core.Path.{_≡_}
+use mathlib.Core.Logic.{⊎-elim}
+use mathlib.Core.Path.{_≡_, ap, _∙_}
+use native.Mathlib.Nat.{not-suc-le-zero, eq-or-lt-of-le, le-of-suc-le-suc}
 use native.Mathlib.Numerals.{add-one}
 use borrow.Author.Tests.{lt-ltb, le-ltb, ne-eqb, eqb-true}
 use lib.Dec.{eqb}
 use Rattle.sizes.specs.Meaning.{entryCount}
-use Rattle.logic.specs.Laws.{if-by}
+use Rattle.logic.specs.Laws.{neither-left, neither-right, if-by}
 use Rattle.record.specs.declared.GateEntryRecord.{GateEntryRecord}
 use Rattle.record.specs.declared.ClearRecord.{ClearRecord}
 use Rattle.record.specs.declared.Refusal.{Refusal}
@@ -37,6 +39,14 @@ module _ (test : ℕ → Bool) (found : Bool) (n : ℕ) (e : found ≡ someOf te
   pub some-more : (t : Bool) → t ≡ test n → (found || t) ≡ someOf test (n + 1)
   unfolding someOf
   some-more t e′ = rw (add-one, e, e′)
+
+-- where none passes the test, each fails it
+pub none-of : (test : ℕ → Bool) (n : ℕ) → someOf test n ≡ false → (i : ℕ) → i < n → test i ≡ false
+unfolding someOf
+none-of test zero e i h = absurd (not-suc-le-zero h)
+none-of test (suc n) e i h =
+    ⊎-elim (λ same. ap test same ∙ neither-right (someOf test n) (test n) e) (λ less. none-of test n (neither-left (someOf test n) (test n) e) i less)
+    (eq-or-lt-of-le (le-of-suc-le-suc h))
 
 module _ (s : Rows) (lists input : List ℕ) (r : GateEntryRecord) (n : ℕ) (e : n ≡ entries s (r .gate)) where
   pub entry-taken : n < entryCount → addEntryOf s lists input r ≡ listed (withEntries s (r .gate) (n + 1)) (entryKept lists (entryPlace (r .gate) n) input) Taken
