@@ -28,7 +28,7 @@ use Rattle.bank.specs.Rows.{row-same, row-other}
 use Rattle.filter.specs.declared.Filter.{Filter}
 use Rattle.filter.specs.Meaning.{noRow, isFilterOf, rowOf}
 use Rattle.stage.specs.Meaning.{Bridge, filterOf}
-use Rattle.promises.specs.Past.Meaning.{ofIt, entryOf, Known, startedIn, clockIn, largestIn, lacksPart, overBurst}
+use Rattle.promises.specs.Past.Meaning.{ofIt, entryOf, Known, startedIn, classesIn, clockIn, largestIn, lacksPart, overBurst}
 use Rattle.record.specs.declared.Record.the-variants as kind
 
 -- ---- what a record says of the words of its row
@@ -46,8 +46,9 @@ Every P (some r) = P r
 abbrev pub setWord : {A : Type 0} → Option A → ℕ
 setWord o = ofIt (λ r. 1) 0 o
 
-pub record StageSaid (started : Bool) (time overhead : ℕ) (classesWord clockWord overheadWord : ℕ) : Type 0 where
+pub record StageSaid (started : Bool) (classes time overhead : ℕ) (classesWord clockWord overheadWord : ℕ) : Type 0 where
   pub starts : isSet classesWord ≡ started
+  pub counts : classesWord ≡ classes
   pub clocks : clockWord ≡ time
   pub overheads : overheadWord ≡ overhead
 
@@ -92,7 +93,7 @@ pub record SchedulerSaid (o : Option SchedulerRecord) (set group rate burst : �
 -- ---- the bank, row by row. What a frame leaves in the rows of flags, buckets and counters is no record's
 
 pub record RowSaid (k : Known) (q : ℕ) (row : List ℕ) : Type 0 where
-  pub stage : q ≡ componentRow → StageSaid (startedIn k) (clockIn k) (largestIn k) (word row 0) (word row 1) (word row 2)
+  pub stage : q ≡ componentRow → StageSaid (startedIn k) (classesIn k) (clockIn k) (largestIn k) (word row 0) (word row 1) (word row 2)
   pub ports : (i : ℕ) → i < portCount → q ≡ portRow i → PortSaid (k .port i) (word row 0) (word row 1)
   pub gates : (i : ℕ) → i < gateCount → q ≡ gateRow i → GateSaid (k .gate i) (k .entries i) row
   pub meters : (i : ℕ) → i < meterCount → q ≡ meterRow i → MeterSaid (k .meter i) row
@@ -117,7 +118,7 @@ keeps k s r vs all own = stored (RowSaid k) s r vs (λ q n. all q) own
 -- ---- a row of one table is of no other
 
 module _ {k : Known} {row : List ℕ} where
-  pub of-stage : StageSaid (startedIn k) (clockIn k) (largestIn k) (word row 0) (word row 1) (word row 2) → RowSaid k componentRow row
+  pub of-stage : StageSaid (startedIn k) (classesIn k) (clockIn k) (largestIn k) (word row 0) (word row 1) (word row 2) → RowSaid k componentRow row
   of-stage own = record {
     stage = λ e. own;
     ports = λ j h e. absurd (omega arith);

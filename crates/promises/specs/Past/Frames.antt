@@ -89,7 +89,7 @@ module _ (k : Known) (s : Rows) (all : BankSaid k s) (a : ArrivalRecord) where
       others q row n x = record { stage = λ e. absurd (n e); ports = x .ports; gates = x .gates; meters = x .meters; meter-states = x .meter-states; groups = x .groups; schedulers = x .schedulers }
 
       own : RowSaid arrival-known componentRow (rowWith (s componentRow) 1 (a .time))
-      own = let x = all componentRow .stage refl in of-stage (record { starts = x .starts; clocks = refl; overheads = x .overheads })
+      own = let x = all componentRow .stage refl in of-stage (record { starts = x .starts; counts = x .counts; clocks = refl; overheads = x .overheads })
 
   abbrev ArrivedSaid : Told → Type 0
   ArrivedSaid t = BankSaid (notedBy (t .verdict) k (kind.Arrival a)) (t .bank)

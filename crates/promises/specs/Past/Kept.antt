@@ -17,7 +17,7 @@ use Rattle.filter.specs.Meaning.{noRow, isFilterOf, rowOf}
 use Rattle.path.specs.Meaning.{listOf}
 use Rattle.stage.specs.Meaning.{Bridge, filterOf, startedOf, takeOf}
 use Rattle.promises.specs.Meaning.{Call, runOf, repeated, fresh, eventOf}
-use Rattle.promises.specs.Past.Meaning.{Past, addedBy, pastOf, lastIn, allIn, ofIt, isThere, Known, knownOf, startedIn, clockIn, overheadIn, largestOf, largestIn, residenceIn, groupNamed, burstIn, entryOf}
+use Rattle.promises.specs.Past.Meaning.{Past, addedBy, pastOf, lastIn, allIn, ofIt, isThere, Known, knownOf, startedIn, classesIn, clockIn, overheadIn, largestOf, largestIn, residenceIn, groupNamed, burstIn, entryOf}
 use Rattle.promises.specs.Past.Entries.{list-entries}
 use Rattle.promises.specs.Past.Agrees.{meterSaid, Agrees}
 use Rattle.promises.specs.Past.Calls.{call-agrees}
@@ -37,7 +37,7 @@ fresh-agrees = record {
   places = refl;
   octets = refl;
   bank = λ q. record {
-    stage = λ e. record { starts = refl; clocks = refl; overheads = refl };
+    stage = λ e. record { starts = refl; counts = refl; clocks = refl; overheads = refl };
     ports = λ i h e. record { sets = refl; overheads = refl; ranged = tt };
     gates = λ i h e. record { words = refl; room = omega arith; ranged = tt };
     meters = λ i h e. record { words = refl; ranged = tt };
@@ -72,6 +72,10 @@ module _ (cs : List Call) where
   -- a start was taken
   pub kept-start : startedOf (after .bank) ≡ startedIn known
   kept-start = run-agrees-fresh .bank componentRow .stage refl .starts
+
+  -- the traffic classes are those that it says, by which a frame's class is found in the table
+  pub kept-classes : component (after .bank) .classes ≡ classesIn known
+  kept-classes = run-agrees-fresh .bank componentRow .stage refl .counts
 
   -- the clock is the time of the last taken arrival
   pub kept-clock : component (after .bank) .clock ≡ clockIn known

@@ -157,6 +157,10 @@ knownOf past = record {
 abbrev pub startedIn : Known → Bool
 startedIn k = isThere (k .start)
 
+-- the traffic classes that it says, 0 if none was taken
+abbrev pub classesIn : Known → ℕ
+classesIn k = ofIt (λ r. r .classes) 0 (k .start)
+
 -- the time of the last taken arrival, 0 if none was taken
 abbrev pub clockIn : Known → ℕ
 clockIn k = ofIt (λ a. a .time) 0 (k .arrival)

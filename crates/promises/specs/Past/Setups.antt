@@ -113,7 +113,7 @@ module _ (k : Known) (s : Rows) (all : BankSaid k s) where
           ∙ ap (λ o. max (largestIn k) (ofIt (λ r. r .overhead) 0 o)) (own-record x (k .port (x .port)) (x .port) (x .port) refl)
 
       port-stage : RowSaid port-known componentRow (rowWith (s componentRow) 2 (max (component s .overhead) (x .overhead)))
-      port-stage = let a = all componentRow .stage refl in of-stage (record { starts = a .starts; clocks = a .clocks; overheads = ap (λ n. max n (x .overhead)) (a .overheads) ∙ sym raised })
+      port-stage = let a = all componentRow .stage refl in of-stage (record { starts = a .starts; counts = a .counts; clocks = a .clocks; overheads = ap (λ n. max n (x .overhead)) (a .overheads) ∙ sym raised })
 
       pub port-said : (n : ℕ) → BankSaid port-known (withPort (withLargest s (x .overhead)) (x .port) (record { set = true; overhead = x .overhead; discarded = n }))
       port-said n =
@@ -263,7 +263,7 @@ module _ (k : Known) (s : Rows) (all : BankSaid k s) where
     start-known = noted k (kind.Start x)
 
     start-own : RowSaid start-known componentRow (rowWith (s componentRow) 0 (x .classes))
-    start-own = let a = all componentRow .stage refl in of-stage (record { starts = ap not (ne-eqb (x .classes) 0 (λ z. omega (arith, ranged .ranges, z))); clocks = a .clocks; overheads = a .overheads })
+    start-own = let a = all componentRow .stage refl in of-stage (record { starts = ap not (ne-eqb (x .classes) 0 (λ z. omega (arith, ranged .ranges, z))); counts = refl; clocks = a .clocks; overheads = a .overheads })
 
     start-others : (q : ℕ) (row : List ℕ) → q ≢ componentRow → RowSaid k q row → RowSaid start-known q row
     start-others q row n a = record { stage = λ e. absurd (n e); ports = a .ports; gates = a .gates; meters = a .meters; meter-states = a .meter-states; groups = a .groups; schedulers = a .schedulers }
