@@ -1,7 +1,5 @@
 // Prints the records of standard input as text, one line for each (docs/TEXT.md), and on a refusal by the reader its number and the offset.
 // The input is read in pieces: a record that is cut at the end of a piece waits there for its rest.
-mod line;
-
 use record::Reading;
 use record::Record;
 use record::Refusal;
@@ -67,7 +65,7 @@ fn step(input: &[u8], last: bool, p: Progress, out: &mut [u8]) -> Progress
                     ended: false,
                 };
             }
-            let end = line::put_refusal(out, filled, record::number(why), offset);
+            let end = text::put_refused(out, filled, record::number(why), offset);
             Progress {
                 at: at,
                 offset: offset,
@@ -78,7 +76,7 @@ fn step(input: &[u8], last: bool, p: Progress, out: &mut [u8]) -> Progress
             }
         }
         Reading::Taken(r, used) => {
-            let end = line::put_line(out, filled, r);
+            let end = lines::put_line(out, filled, r);
             Progress {
                 at: at + used,
                 offset: std::num::wrapping_add_u64(offset, used as u64),

@@ -9,7 +9,7 @@ use lib.Dec.{ltb}
 use lib.ListN.{length, getD, set, drop}
 use lib.Seq.{drop-cons}
 use borrow.Author.Tests.{ltb-false, lt-ltb, le-ltb, eq-eqb, ne-eqb}
-use Rattle.text.specs.Meaning.{Page, page, putOf, written, digitsIn, digitsOf, pairOf, newline, itemOf, upTo}
+use Rattle.text.specs.Meaning.{Page, page, putOf, written, digitsIn, digitsOf, pairOf, ascii, itemOf, upTo}
 
 -- ---- pages
 
@@ -95,11 +95,11 @@ module _ (n : ℕ) where
 module _ (p q : Page) (table : List ℕ) (n : ℕ) (name : List ℕ) (value : ℕ) where
   pub item-none : value ≡ 0 → p ≡ written p (itemOf table n name value)
   unfolding itemOf written
-  item-none e = ap (λ (z : Bool). written p (cond z [] (table ++ digitsOf n ++ name ++ digitsOf value ++ newline))) (sym (eq-eqb value 0 e))
+  item-none e = ap (λ (z : Bool). written p (cond z [] (table ++ digitsOf n ++ name ++ digitsOf value ++ ascii "\n"))) (sym (eq-eqb value 0 e))
 
-  pub item-some : (value ≡ 0 → ⊥) → q ≡ written p (table ++ digitsOf n ++ name ++ digitsOf value ++ newline) → q ≡ written p (itemOf table n name value)
+  pub item-some : (value ≡ 0 → ⊥) → q ≡ written p (table ++ digitsOf n ++ name ++ digitsOf value ++ ascii "\n") → q ≡ written p (itemOf table n name value)
   unfolding itemOf
-  item-some h e = e ∙ ap (λ (z : Bool). written p (cond z [] (table ++ digitsOf n ++ name ++ digitsOf value ++ newline))) (sym (ne-eqb value 0 h))
+  item-some h e = e ∙ ap (λ (z : Bool). written p (cond z [] (table ++ digitsOf n ++ name ++ digitsOf value ++ ascii "\n"))) (sym (ne-eqb value 0 h))
 
 module _ (f : ℕ → List ℕ) (p : Page) where
   pub up-none : p ≡ written p (upTo f 0)

@@ -1,5 +1,7 @@
 -- A buffer that is filled from its front: its octets, and the place of the next one. Where there is no place, an octet is left out.
 use Prim.Native.Nat.{ℕ, _+_, zero, suc, _/_, _%_}
+use Prim.Native.Char.{Char, code}
+use Prim.Native.String.{String, [] as empty, _∷_ as _then_}
 use mathlib.Core.Bool.{cond, Bool}
 use mathlib.Core.List.{List, [], _∷_, _++_}
 use lib.Dec.{ltb, eqb}
@@ -16,7 +18,7 @@ use Rattle.verdict.specs.declared.Drop.{Drop}
 use Rattle.verdict.specs.Meaning.{dropNumberOf}
 use Rattle.bank.specs.Meaning as view
 
--- the room that is kept for a line: the longest has 53 octets
+-- the room that is kept for a line: none is longer (`Room`)
 abbrev pub lineRoom : ℕ
 lineRoom = 64
 
@@ -49,136 +51,54 @@ digitsOf n = digitsIn (n + 1) n
 abbrev pub pairOf : ℕ → List ℕ
 pairOf n = (n / 10 % 10 + 48) ∷ (n % 10 + 48) ∷ []
 
--- ---- words, with the spaces that part them from numbers
+-- ---- words
 
-abbrev pub space : List ℕ
-space = 32 ∷ []
-
-abbrev pub newline : List ℕ
-newline = 10 ∷ []
-
--- " pass "
-abbrev pub passText : List ℕ
-passText = 32 ∷ 112 ∷ 97 ∷ 115 ∷ 115 ∷ 32 ∷ []
-
--- " drop "
-abbrev pub dropText : List ℕ
-dropText = 32 ∷ 100 ∷ 114 ∷ 111 ∷ 112 ∷ 32 ∷ []
-
--- "end "
-abbrev pub endText : List ℕ
-endText = 101 ∷ 110 ∷ 100 ∷ 32 ∷ []
-
--- "refused "
-abbrev pub refusedText : List ℕ
-refusedText = 114 ∷ 101 ∷ 102 ∷ 117 ∷ 115 ∷ 101 ∷ 100 ∷ 32 ∷ []
-
--- " at "
-abbrev pub atText : List ℕ
-atText = 32 ∷ 97 ∷ 116 ∷ 32 ∷ []
-
--- "-"
-abbrev pub noneText : List ℕ
-noneText = 45 ∷ []
-
--- "filter "
-abbrev pub filterText : List ℕ
-filterText = 102 ∷ 105 ∷ 108 ∷ 116 ∷ 101 ∷ 114 ∷ 32 ∷ []
-
--- "gate "
-abbrev pub gateText : List ℕ
-gateText = 103 ∷ 97 ∷ 116 ∷ 101 ∷ 32 ∷ []
-
--- "meter "
-abbrev pub meterText : List ℕ
-meterText = 109 ∷ 101 ∷ 116 ∷ 101 ∷ 114 ∷ 32 ∷ []
-
--- "port "
-abbrev pub portText : List ℕ
-portText = 112 ∷ 111 ∷ 114 ∷ 116 ∷ 32 ∷ []
-
--- " MatchingFrames "
-abbrev pub matchingText : List ℕ
-matchingText = 32 ∷ 77 ∷ 97 ∷ 116 ∷ 99 ∷ 104 ∷ 105 ∷ 110 ∷ 103 ∷ 70 ∷ 114 ∷ 97 ∷ 109 ∷ 101 ∷ 115 ∷ 32 ∷ []
-
--- " PassingSDU "
-abbrev pub passingSduText : List ℕ
-passingSduText = 32 ∷ 80 ∷ 97 ∷ 115 ∷ 115 ∷ 105 ∷ 110 ∷ 103 ∷ 83 ∷ 68 ∷ 85 ∷ 32 ∷ []
-
--- " NotPassingSDU "
-abbrev pub notPassingSduText : List ℕ
-notPassingSduText = 32 ∷ 78 ∷ 111 ∷ 116 ∷ 80 ∷ 97 ∷ 115 ∷ 115 ∷ 105 ∷ 110 ∷ 103 ∷ 83 ∷ 68 ∷ 85 ∷ 32 ∷ []
-
--- " PassingFrames "
-abbrev pub passingText : List ℕ
-passingText = 32 ∷ 80 ∷ 97 ∷ 115 ∷ 115 ∷ 105 ∷ 110 ∷ 103 ∷ 70 ∷ 114 ∷ 97 ∷ 109 ∷ 101 ∷ 115 ∷ 32 ∷ []
-
--- " NotPassingFrames "
-abbrev pub notPassingText : List ℕ
-notPassingText = 32 ∷ 78 ∷ 111 ∷ 116 ∷ 80 ∷ 97 ∷ 115 ∷ 115 ∷ 105 ∷ 110 ∷ 103 ∷ 70 ∷ 114 ∷ 97 ∷ 109 ∷ 101 ∷ 115 ∷ 32 ∷ []
-
--- " REDFrames "
-abbrev pub redFramesText : List ℕ
-redFramesText = 32 ∷ 82 ∷ 69 ∷ 68 ∷ 70 ∷ 114 ∷ 97 ∷ 109 ∷ 101 ∷ 115 ∷ 32 ∷ []
-
--- " oversize "
-abbrev pub oversizeText : List ℕ
-oversizeText = 32 ∷ 111 ∷ 118 ∷ 101 ∷ 114 ∷ 115 ∷ 105 ∷ 122 ∷ 101 ∷ 32 ∷ []
-
--- " invalid-receive "
-abbrev pub invalidReceiveText : List ℕ
-invalidReceiveText = 32 ∷ 105 ∷ 110 ∷ 118 ∷ 97 ∷ 108 ∷ 105 ∷ 100 ∷ 45 ∷ 114 ∷ 101 ∷ 99 ∷ 101 ∷ 105 ∷ 118 ∷ 101 ∷ 32 ∷ []
-
--- " octets "
-abbrev pub octetsText : List ℕ
-octetsText = 32 ∷ 111 ∷ 99 ∷ 116 ∷ 101 ∷ 116 ∷ 115 ∷ 32 ∷ []
-
--- " red "
-abbrev pub redText : List ℕ
-redText = 32 ∷ 114 ∷ 101 ∷ 100 ∷ 32 ∷ []
-
--- " DiscardedFrames "
-abbrev pub discardedText : List ℕ
-discardedText = 32 ∷ 68 ∷ 105 ∷ 115 ∷ 99 ∷ 97 ∷ 114 ∷ 100 ∷ 101 ∷ 100 ∷ 70 ∷ 114 ∷ 97 ∷ 109 ∷ 101 ∷ 115 ∷ 32 ∷ []
+-- the octets of a text
+abbrev pub ascii : String → List ℕ
+ascii empty = []
+ascii (c then s) = code c ∷ ascii s
 
 -- ---- the line of an arrival: its number, the verdict, then internal priority, class, drop mark, eligibility time (- for none), or the drop number
 
 abbrev pub timeOf : Bool → ℕ → List ℕ
-timeOf timed time = cond timed (digitsOf time) noneText
+timeOf timed time = cond timed (digitsOf time) (ascii "-")
 
 unfoldable pub passLineOf : ℕ → Pass → List ℕ
 passLineOf arrival p =
-    digitsOf arrival ++ passText ++ digitsOf (p .priority) ++ space ++ digitsOf (p .class) ++ space ++ digitsOf (p .«drop_mark») ++ space ++ timeOf (p .timed) (p .eligible) ++ newline
+    digitsOf arrival ++ ascii " pass " ++ digitsOf (p .priority) ++ ascii " " ++ digitsOf (p .class) ++ ascii " " ++ digitsOf (p .«drop_mark») ++ ascii " " ++ timeOf (p .timed) (p .eligible) ++ ascii "\n"
 
 unfoldable pub dropLineOf : ℕ → Drop → List ℕ
-dropLineOf arrival d = digitsOf arrival ++ dropText ++ digitsOf (dropNumberOf d) ++ newline
+dropLineOf arrival d = digitsOf arrival ++ ascii " drop " ++ digitsOf (dropNumberOf d) ++ ascii "\n"
 
 -- ---- the last line: the records taken, or the refusal and the octets taken before that record
 
 unfoldable pub endLineOf : ℕ → List ℕ
-endLineOf records = endText ++ digitsOf records ++ newline
+endLineOf records = ascii "end " ++ digitsOf records ++ ascii "\n"
 
 unfoldable pub refusedLineOf : ℕ → ℕ → List ℕ
-refusedLineOf number offset = refusedText ++ digitsOf number ++ atText ++ digitsOf offset ++ newline
+refusedLineOf number offset = ascii "refused " ++ digitsOf number ++ ascii " at " ++ digitsOf offset ++ ascii "\n"
 
 -- ---- the report: what is not 0, one a line
 
 unfoldable pub itemOf : List ℕ → ℕ → List ℕ → ℕ → List ℕ
-itemOf table n name value = cond (eqb value 0) [] (table ++ digitsOf n ++ name ++ digitsOf value ++ newline)
+itemOf table n name value = cond (eqb value 0) [] (table ++ digitsOf n ++ name ++ digitsOf value ++ ascii "\n")
+
+abbrev reported : String → ℕ → String → ℕ → List ℕ
+reported table n name value = itemOf (ascii table) n (ascii name) value
 
 unfoldable pub filterItemsOf : ℕ → Counters → List ℕ
 filterItemsOf n c =
-    itemOf filterText n matchingText (c .matching) ++ itemOf filterText n passingSduText (c .«passing_sdu») ++ itemOf filterText n notPassingSduText (c .«not_passing_sdu») ++ itemOf filterText n passingText (c .passing)
-    ++ itemOf filterText n notPassingText (c .«not_passing») ++ itemOf filterText n redFramesText (c .red) ++ itemOf filterText n oversizeText (boolByte (c .oversize))
+    reported "filter " n " MatchingFrames " (c .matching) ++ reported "filter " n " PassingSDU " (c .«passing_sdu») ++ reported "filter " n " NotPassingSDU " (c .«not_passing_sdu») ++ reported "filter " n " PassingFrames " (c .passing)
+    ++ reported "filter " n " NotPassingFrames " (c .«not_passing») ++ reported "filter " n " REDFrames " (c .red) ++ reported "filter " n " oversize " (boolByte (c .oversize))
 
 unfoldable pub gateItemsOf : ℕ → Gate → List ℕ
-gateItemsOf n g = itemOf gateText n invalidReceiveText (boolByte (g .«invalid_receive_flag»)) ++ itemOf gateText n octetsText (boolByte (g .«octets_flag»))
+gateItemsOf n g = reported "gate " n " invalid-receive " (boolByte (g .«invalid_receive_flag»)) ++ reported "gate " n " octets " (boolByte (g .«octets_flag»))
 
 abbrev pub meterItemOf : ℕ → Meter → List ℕ
-meterItemOf n m = itemOf meterText n redText (boolByte (m .«red_flag»))
+meterItemOf n m = reported "meter " n " red " (boolByte (m .«red_flag»))
 
 abbrev pub portItemOf : ℕ → Port → List ℕ
-portItemOf n p = itemOf portText n discardedText (p .discarded)
+portItemOf n p = reported "port " n " DiscardedFrames " (p .discarded)
 
 -- those of the numbers below n, in ascending order
 unfoldable pub upTo : (ℕ → List ℕ) → ℕ → List ℕ

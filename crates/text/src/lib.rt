@@ -12,7 +12,7 @@ ghost use mathlib.Core.Path.{_≡_};
 ghost use Rattle.bank.specs.Meaning.{rowsOf};
 ghost use Rattle.text.specs.Meaning.{page, putOf, written, digitsOf, pairOf, passLineOf, dropLineOf, endLineOf, refusedLineOf, itemOf, filterItemsOf, gateItemsOf, meterItemOf, portItemOf, reportOf, filtersOf, gatesOf, metersOf, portsOf, timeOf};
 
-// The room that is kept for a line: the longest has 53 octets.
+// The room that is kept for a line: none is longer (specs/Room.antt).
 pub const LINE: usize = 64;
 
 // Ruled out: another octet; the place not moved on.
