@@ -4,5 +4,5 @@ fn main() {
     let mut bank = [0u64; bank::WORDS];
     let mut lists = [0u8; sizes::LISTS];
     let d = stream::drain(&mut bank, &mut lists, false);
-    stream::close(d);
+    stream::close(b"ingress", d);
 }

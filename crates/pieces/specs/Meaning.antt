@@ -1,8 +1,17 @@
--- What is kept of a piece at the front of its buffer.
-use Prim.Native.Nat.{ℕ}
-use mathlib.Core.List.{List, _++_}
-use lib.ListN.{length, drop}
+-- What stands in the buffer of a piece after a read, what is kept of it at the front, and what is said of a read or a write that fails.
+use Prim.Native.Nat.{ℕ, _≤_}
+use mathlib.Core.Path.{_≡_}
+use mathlib.Core.List.{List, [], _∷_, _++_}
+use lib.ListN.{length, take, drop}
 use lib.Seq.{slice}
+use Rattle.pieces.specs.declared.Failure.{Failure}
+use Rattle.pieces.specs.declared.Failure.the-variants.{Nothing, Input, Output}
+
+-- up to `end` there are the octets that were kept, and behind them those that were read
+pub record Fills (before : List ℕ) (kept : ℕ) (after : List ℕ) (end : ℕ) : Type 0 where
+  pub read : List ℕ
+  pub there : take end after ≡ take kept before ++ read
+  pub within : end ≤ length after
 
 -- a buffer, and how many octets wait at its front
 pub record Kept : Type 0 where
@@ -15,3 +24,21 @@ frontOf buf left = record { buffer = left ++ drop (length left) buf; waiting = l
 -- the octets from `from` to `end`, as far as the buffer goes, stand at the front; those behind them are as they were
 unfoldable pub keptOf : List ℕ → ℕ → ℕ → Kept
 keptOf buf from end = frontOf buf (slice from end buf)
+
+-- ---- a read or a write that fails
+
+-- ": standard input cannot be read"
+abbrev pub inputFailedText : List ℕ
+inputFailedText =
+    58 ∷ 32 ∷ 115 ∷ 116 ∷ 97 ∷ 110 ∷ 100 ∷ 97 ∷ 114 ∷ 100 ∷ 32 ∷ 105 ∷ 110 ∷ 112 ∷ 117 ∷ 116 ∷ 32 ∷ 99 ∷ 97 ∷ 110 ∷ 110 ∷ 111 ∷ 116 ∷ 32 ∷ 98 ∷ 101 ∷ 32 ∷ 114 ∷ 101 ∷ 97 ∷ 100 ∷ 10 ∷ []
+
+-- ": standard output cannot be written"
+abbrev pub outputFailedText : List ℕ
+outputFailedText =
+    58 ∷ 32 ∷ 115 ∷ 116 ∷ 97 ∷ 110 ∷ 100 ∷ 97 ∷ 114 ∷ 100 ∷ 32 ∷ 111 ∷ 117 ∷ 116 ∷ 112 ∷ 117 ∷ 116 ∷ 32 ∷ 99 ∷ 97 ∷ 110 ∷ 110 ∷ 111 ∷ 116 ∷ 32 ∷ 98 ∷ 101 ∷ 32 ∷ 119 ∷ 114 ∷ 105 ∷ 116 ∷ 116 ∷ 101 ∷ 110 ∷ 10 ∷ []
+
+-- the line that says so, after the program's name
+unfoldable pub complaintOf : List ℕ → Failure → List ℕ
+complaintOf program Nothing = []
+complaintOf program Input = program ++ inputFailedText
+complaintOf program Output = program ++ outputFailedText

@@ -3,21 +3,40 @@
 ghost use mathlib.Core.Path.{_≡_};
 ghost use Prim.Native.Nat.{_≤_, _-_, min};
 ghost use lib.ListN.{length};
-ghost use Rattle.pieces.specs.Meaning.{Kept, keptOf};
+ghost use Rattle.text.specs.Meaning.{page, written};
+ghost use Rattle.pieces.specs.Meaning.{Kept, keptOf, Fills, complaintOf};
 
-// Reads once where the octets that are kept do not suffice (`starved`), behind them, and answers how many octets there are now.
-pub fn fill(buf: &mut [u8], kept: usize, starved: bool) -> usize
-    ensures { λ r. ⌜ (r ≤ length (now (buf .exit))) × (length (now (buf .exit)) ≡ length (now (buf .entry))) ⌝ }
+// What the system has failed to do, if anything.
+pub enum Failure {
+    Nothing,
+    Input,
+    Output,
+}
+
+// The octets that are there after a read, and whether the read failed: that is not the end of the input, at which it gives none.
+pub struct Filled {
+    pub end: usize,
+    pub failed: bool,
+}
+
+// Reads once where the octets that are kept do not suffice (`starved`), behind them.
+// Ruled out: the octets that are kept overwritten; what was read taken for all that is there.
+pub fn fill(buf: &mut [u8], kept: usize, starved: bool) -> Filled
+    ensures { λ r. ⌜ Fills (now (buf .entry)) kept (now (buf .exit)) (r .end) ⌝ }
 {
-    if kept > buf.len() {
-        return 0;
-    }
+    let at = least(kept, buf.len());
     if !starved {
-        return kept;
+        return Filled {
+            end: at,
+            failed: false,
+        };
     }
-    let got = libc::read(0, &mut buf[kept..]);
-    let n = io::count(got, &buf[kept..]);
-    kept + n
+    let got = libc::read(libc::STDIN_FILENO, &mut buf[at..]);
+    let n = io::count(got, &buf[at..]);
+    Filled {
+        end: at + n,
+        failed: got < 0,
+    }
 }
 
 // The octets from `from` to `end`, as far as the buffer goes, move to the front: a record that is not whole waits there for its rest.
@@ -35,10 +54,38 @@ pub fn keep(buf: &mut [u8], from: usize, end: usize) -> usize
     n
 }
 
-// Writes the first `filled` octets, as far as the buffer goes, and answers whether all of them are written.
+// Writes the first `filled` octets, as far as the buffer goes, to standard output, and answers whether all of them are written.
 pub fn write(out: &[u8], filled: usize) -> bool {
+    put(libc::STDOUT_FILENO, out, filled)
+}
+
+// Says on standard error what has failed; nothing where nothing has.
+// Ruled out, in what is put into the buffer: the other stream named; the program not named.
+pub fn complain(program: &[u8], failure: Failure) -> bool {
+    let mut out = io::buffer();
+    let n = complaint(&mut out, program, failure);
+    put(libc::STDERR_FILENO, &out, n)
+}
+
+fn complaint(out: &mut [u8], program: &[u8], failure: Failure) -> usize
+    ensures { λ r. ⌜ page (now (out .exit)) r ≡ written (page (now (out .entry)) 0) (complaintOf (now (program .entry)) failure) ⌝ }
+{
+    match failure {
+        Failure::Nothing => 0,
+        Failure::Input => {
+            let n = text::put_octets(out, 0, program);
+            text::put_octets(out, n, b": standard input cannot be read\n")
+        }
+        Failure::Output => {
+            let n = text::put_octets(out, 0, program);
+            text::put_octets(out, n, b": standard output cannot be written\n")
+        }
+    }
+}
+
+fn put(fd: i32, out: &[u8], filled: usize) -> bool {
     let n = least(filled, out.len());
-    io::write_all(1, &out[..n])
+    io::write_all(fd, &out[..n])
 }
 
 fn least(a: usize, b: usize) -> usize

@@ -1,5 +1,6 @@
 // Prints the records of standard input as text, one line for each (docs/TEXT.md), and on a refusal by the reader its number and the offset.
 // The input is read in pieces: a record that is cut at the end of a piece waits there for its rest.
+use pieces::Failure;
 use record::Reading;
 use record::Record;
 use record::Refusal;
@@ -8,7 +9,7 @@ ghost use Prim.Native.Nat.{_≤_};
 ghost use lib.ListN.{length};
 
 // Where the reading of a piece stands: the octets of the piece that are read, the octets read in all, whether a start was read, the octets of
-// the output that wait to be written, whether to go on in this piece, and whether nothing more is to be read at all.
+// the output that wait to be written, whether to go on in this piece, whether nothing more is to be read at all, and what has failed.
 struct Progress {
     at: usize,
     offset: u64,
@@ -16,6 +17,7 @@ struct Progress {
     filled: usize,
     more: bool,
     ended: bool,
+    failure: Failure,
 }
 
 fn is_start(r: Record) -> bool {
@@ -43,6 +45,7 @@ fn step(input: &[u8], last: bool, p: Progress, out: &mut [u8]) -> Progress
     let filled = p.filled;
     let offset = p.offset;
     let started = p.started;
+    let failure = p.failure;
     if input.len() == at {
         return Progress {
             at: at,
@@ -51,6 +54,7 @@ fn step(input: &[u8], last: bool, p: Progress, out: &mut [u8]) -> Progress
             filled: filled,
             more: false,
             ended: last,
+            failure: failure,
         };
     }
     match record::read(&input[at..], started) {
@@ -63,6 +67,7 @@ fn step(input: &[u8], last: bool, p: Progress, out: &mut [u8]) -> Progress
                     filled: filled,
                     more: false,
                     ended: false,
+                    failure: failure,
                 };
             }
             let end = text::put_refused(out, filled, record::number(why), offset);
@@ -73,6 +78,7 @@ fn step(input: &[u8], last: bool, p: Progress, out: &mut [u8]) -> Progress
                 filled: end,
                 more: false,
                 ended: true,
+                failure: failure,
             }
         }
         Reading::Taken(r, used) => {
@@ -84,6 +90,7 @@ fn step(input: &[u8], last: bool, p: Progress, out: &mut [u8]) -> Progress
                 filled: end,
                 more: true,
                 ended: false,
+                failure: failure,
             }
         }
     }
@@ -96,14 +103,26 @@ fn emptied(p: Progress, out: &[u8]) -> Progress
     if p.filled < 32_768 {
         return p;
     }
-    let is_written = pieces::write(out, p.filled);
+    let failure = p.failure;
+    if pieces::write(out, p.filled) {
+        return Progress {
+            at: p.at,
+            offset: p.offset,
+            started: p.started,
+            filled: 0,
+            more: p.more,
+            ended: p.ended,
+            failure: failure,
+        };
+    }
     Progress {
         at: p.at,
         offset: p.offset,
         started: p.started,
         filled: 0,
-        more: p.more & is_written,
-        ended: p.ended | !is_written,
+        more: false,
+        ended: true,
+        failure: Failure::Output,
     }
 }
 
@@ -124,7 +143,19 @@ fn print_piece(input: &[u8], last: bool, p: Progress, out: &mut [u8]) -> Progres
 // One piece: read, print, keep what is not whole at the front.
 fn turn(p: Progress, buf: &mut [u8], out: &mut [u8]) -> Progress {
     let kept = p.at;
-    let end = pieces::fill(buf, kept, true);
+    let filled = pieces::fill(buf, kept, true);
+    let end = filled.end;
+    if filled.failed {
+        return Progress {
+            at: kept,
+            offset: p.offset,
+            started: p.started,
+            filled: p.filled,
+            more: false,
+            ended: true,
+            failure: Failure::Input,
+        };
+    }
     let from = Progress {
         at: 0,
         offset: p.offset,
@@ -132,9 +163,11 @@ fn turn(p: Progress, buf: &mut [u8], out: &mut [u8]) -> Progress {
         filled: p.filled,
         more: true,
         ended: false,
+        failure: Failure::Nothing,
     };
     let to = print_piece(&buf[..end], end <= kept, from, out);
     let left = pieces::keep(buf, to.at, end);
+    let failure = to.failure;
     Progress {
         at: left,
         offset: to.offset,
@@ -142,10 +175,12 @@ fn turn(p: Progress, buf: &mut [u8], out: &mut [u8]) -> Progress {
         filled: to.filled,
         more: true,
         ended: to.ended | (end <= kept),
+        failure: failure,
     }
 }
 
-fn print_all(buf: &mut [u8], out: &mut [u8]) {
+// All of standard input. What is printed of the records before a read that fails is written.
+fn print_all(buf: &mut [u8], out: &mut [u8]) -> Failure {
     let mut p = Progress {
         at: 0,
         offset: 0,
@@ -153,17 +188,23 @@ fn print_all(buf: &mut [u8], out: &mut [u8]) {
         filled: 0,
         more: true,
         ended: false,
+        failure: Failure::Nothing,
     };
     let mut turns = u64::MAX;
     while turns > 0 && !p.ended {
         p = turn(p, buf, out);
         turns -= 1;
     }
-    pieces::write(out, p.filled);
+    let failure = p.failure;
+    if pieces::write(out, p.filled) {
+        return failure;
+    }
+    Failure::Output
 }
 
 fn main() {
     let mut buf = io::large_buffer();
     let mut out = io::large_buffer();
-    print_all(&mut buf, &mut out);
+    let failure = print_all(&mut buf, &mut out);
+    pieces::complain(b"records", failure);
 }

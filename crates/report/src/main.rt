@@ -3,7 +3,7 @@
 fn main() {
     let mut bank = [0u64; bank::WORDS];
     let mut lists = [0u8; sizes::LISTS];
-    let d = stream::drain(&mut bank, &mut lists, true);
-    stream::report(&bank);
-    stream::close(d);
+    let drained = stream::drain(&mut bank, &mut lists, true);
+    let reported = stream::report(&bank, drained);
+    stream::close(b"report", reported);
 }

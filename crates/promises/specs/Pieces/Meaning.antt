@@ -1,24 +1,59 @@
--- An input of many records: the answers to them one after another, and how it ends.
-use Prim.Native.Nat.{ℕ}
-use mathlib.Core.List.{List, [], _∷_}
+-- The calls that an input of many records is, and what a run over a piece of it is to leave.
+use Prim.Native.Nat.{ℕ, _+_, _%_, _^_, _<_, _≤_}
+use mathlib.Core.Bool.{false}
+use mathlib.Core.List.{List, [], _∷_, _++_}
 use mathlib.Core.Path.{_≡_}
-use lib.ListN.{drop}
+use lib.ListN.{length, drop}
 use Rattle.record.specs.declared.Refusal.{Refusal}
+use Rattle.record.specs.Meaning.{refusalNumberOf}
 use Rattle.verdict.specs.declared.Answer.{Answer}
 use Rattle.verdict.specs.declared.Verdict.the-variants.{Refused}
-use Rattle.stage.specs.Meaning.{Bridge, takeOf, Took}
-use Rattle.promises.specs.Refusals.Meaning.{NoRefusal}
+use Rattle.stage.specs.Meaning.{Bridge, takeOf}
+use Rattle.text.specs.Meaning.{page, written}
+use Rattle.run.specs.declared.Progress.{Progress}
+use Rattle.run.specs.Meaning.{againOf, Ran, pieceRunOf}
+use Rattle.run.specs.Input.Meaning.{Front, usedIn, arrivalsIn, toldOf}
+use Rattle.promises.specs.Meaning.{Call}
 
--- from the bridge b on, the octets s give these answers and leave that bridge; the refusal `why` ends them, with the octets `rest` not taken
-pub data Input : Bridge → List ℕ → List Answer → Bridge → List ℕ → Refusal → Type 0 where
-  ends : {b : Bridge} {s : List ℕ} {why : Refusal} → takeOf b s .answer .verdict ≡ Refused why → Input b s [] b s why
-  takes : {b b′ : Bridge} {s rest : List ℕ} {answers : List Answer} {why : Refusal} (o : Took) → takeOf b s ≡ o → NoRefusal (o .answer .verdict)
-      → Input (o .after) (drop (o .answer .used) s) answers b′ rest why → Input b s (o .answer ∷ answers) b′ rest why
+-- each record is a call that is given all the octets from there on
+abbrev pub callsOf : List ℕ → List Answer → List Call
+callsOf s [] = []
+callsOf s (a ∷ answers) = s ∷ callsOf (drop (a .used) s) answers
 
--- every input comes to an end
-pub record Ended (b : Bridge) (s : List ℕ) : Type 0 where
+-- a run stops at a refusal, where there is no room for another line, or where no octet is left
+pub data Stops (b : Bridge) (rest : List ℕ) (p : Progress) : Type 0 where
+  refused : (why : Refusal) → takeOf b rest .answer .verdict ≡ Refused why → p .refusal ≡ refusalNumberOf why → Stops b rest p
+  full : p .refusal ≡ 0 → p .more ≡ false → Stops b rest p
+  used-up : p .refusal ≡ 0 → rest ≡ [] → Stops b rest p
+
+-- a run over the octets `input` from the progress p on took records at their front: it left the bridge and the octets as these leave them, counted them
+-- (modulo 2^64), and wrote their lines
+pub record RunIs (input : List ℕ) (b : Bridge) (out : List ℕ) (p : Progress) (r : Ran) : Type 0 where
   pub answers : List Answer
-  pub after : Bridge
-  pub rest : List ℕ
-  pub why : Refusal
-  pub is : Input b s answers after rest why
+  pub front : Front b (drop (p .at) input) answers (r .after) (drop (r .progress .at) input)
+  pub at : r .progress .at ≡ p .at + usedIn answers
+  pub within : r .progress .at ≤ length input
+  pub records : r .progress .records ≡ (p .records + length answers) % 2 ^ 64
+  pub arrivals : r .progress .arrivals ≡ (p .arrivals + arrivalsIn answers) % 2 ^ 64
+  pub quiet : r .progress .quiet ≡ p .quiet
+  pub text : page (r .out) (r .progress .filled) ≡ written (page out (p .filled)) (toldOf (p .quiet) (p .arrivals) answers)
+  pub stops : Stops (r .after) (drop (r .progress .at) input) (r .progress)
+
+-- runs one after another, from the octets s and the later pieces on: each over what the last one left, with the next piece behind it, and into a page of its
+-- own. `last` is what the last of them leaves, and `rest` the octets that it does not take
+pub data RunsOn : Bridge → List ℕ → Progress → List (List ℕ) → Ran → List ℕ → Type 0 where
+  ends : {b : Bridge} {s : List ℕ} {p : Progress} (out : List ℕ) (r : Ran) → length s < 2 ^ 64 → r ≡ pieceRunOf (length s) s b out (againOf p) → RunsOn b s p [] r (drop (r .progress .at) s)
+  goes : {b : Bridge} {s rest : List ℕ} {p : Progress} {pieces : List (List ℕ)} {last : Ran} (out : List ℕ) (r : Ran) (piece : List ℕ) → length s < 2 ^ 64 → r ≡ pieceRunOf (length s) s b out (againOf p)
+      → RunsOn (r .after) (drop (r .progress .at) s ++ piece) (r .progress) pieces last rest → RunsOn b s p (piece ∷ pieces) last rest
+
+abbrev pub joined : List (List ℕ) → List ℕ
+joined [] = []
+joined (piece ∷ pieces) = piece ++ joined pieces
+
+-- all of them together took records at the front of all the octets
+pub record RunsAre (all : List ℕ) (b : Bridge) (p : Progress) (last : Ran) (rest : List ℕ) : Type 0 where
+  pub answers : List Answer
+  pub front : Front b all answers (last .after) rest
+  pub records : last .progress .records ≡ (p .records + length answers) % 2 ^ 64
+  pub arrivals : last .progress .arrivals ≡ (p .arrivals + arrivalsIn answers) % 2 ^ 64
+  pub stops : Stops (last .after) rest (last .progress)

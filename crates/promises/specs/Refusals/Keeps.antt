@@ -28,8 +28,9 @@ use Rattle.setup.specs.Laws.{Keeps, port-keeps, gate-keeps, entry-keeps, meter-
 use Rattle.stage.specs.Meaning.{Bridge, Took, took, answered, refusedOf, bankTook, listsTook, takenOf, startedOf, takeOf}
 use Rattle.promises.specs.Meaning.{Call, runOf, readingOf}
 use Rattle.promises.specs.Ways.{frame-along, arrived-along, Called, unread, read, called-way}
-use Rattle.promises.specs.Refusals.Meaning.{refusalIn, NoRefusal}
+use Rattle.promises.specs.Refusals.Meaning.{refusalIn}
 use Rattle.path.specs.Meaning.{sduFilteredOf, arrivalOf}
+use Rattle.run.specs.Input.Meaning.{NoRefusal}
 use Rattle.record.specs.declared.Record.the-variants as kind
 use Rattle.record.specs.declared.Reading.the-variants as reading
 

@@ -18,8 +18,6 @@ use Rattle.verdict.specs.declared.Verdict.the-variants.{Refused, Taken, Passed,
 use Rattle.setup.specs.Meaning.{incompleteOf}
 use Rattle.stage.specs.Meaning.{Bridge, noKey, firstRow, startedOf, takeOf}
 use Rattle.promises.specs.Meaning.{Call}
-use Rattle.record.specs.declared.Refusal.{Refusal}
-use mathlib.Core.Logic.{_≢_}
 use Rattle.record.specs.declared.Record.the-variants as kind
 
 -- the number of the refusal that a call answers, 0 where it answers none
@@ -141,6 +139,3 @@ octetTries b c = try 1 (emptyOf c) ∷ kindTries b c (kindOf (getD c 0 0))
 -- the whole table
 abbrev pub triesOf : Bridge → Call → List Try
 triesOf b c = try 11 (not (eqb (length (b .table)) filterCount)) ∷ octetTries b c
-
-abbrev pub NoRefusal : Verdict → Type 0
-NoRefusal v = (why : Refusal) → v ≢ Refused why

@@ -26,4 +26,7 @@ print-all-spec =
     (λ c κs. search needs)
     (λ c. omega arith)
     (λ c. omega arith)
+    (λ c. search needs)
+    (λ c. omega arith)
+    (λ c. omega arith)
     (λ c. search needs))

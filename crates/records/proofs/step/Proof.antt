@@ -6,8 +6,8 @@ use borrow.Author.Needs.{needs}
 use Rattle.records.proofs.step.Statement.{statement}
 use Rattle.records.proofs.step.Tie as tie
 
-add-t29 : tie.Need-add-t29
-add-t29 c =
+add-t30 : tie.Need-add-t30
+add-t30 c =
     let h = c .before .before .before .before .before in
     let d = h .before .before in
     let a = d .before .before .before .before .before .args in
@@ -37,7 +37,7 @@ step-spec =
     (λ c κs. search needs)
     (λ c. search needs)
     (λ c κs. search needs)
-    add-t29
+    add-t30
     (λ c κs. search needs)
     (λ c κs. search needs)
     (λ c. search needs)

@@ -1,0 +1,2 @@
+-- An input of many records, taken one after another.
+pub mod Meaning
