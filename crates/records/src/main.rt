@@ -5,8 +5,13 @@ use record::Reading;
 use record::Record;
 use record::Refusal;
 ghost use mathlib.Core.Path.{_≡_};
-ghost use Prim.Native.Nat.{_≤_};
+ghost use Prim.Native.Nat.{_+_, _≤_, _<_};
+ghost use Rattle.lines.specs.Room.{recordRoom};
+ghost use Rattle.records.specs.Room.{half, HasRoom};
 ghost use lib.ListN.{length};
+
+// Half of the buffer of the output.
+const HALF: usize = 32_768;
 
 // Where the reading of a piece stands: the octets of the piece that are read, the octets read in all, whether a start was read, the octets of
 // the output that wait to be written, whether to go on in this piece, whether nothing more is to be read at all, and what has failed.
@@ -39,7 +44,9 @@ fn is_cut(why: Refusal) -> bool {
 // One record of the piece. `last` says that no piece follows, so that a cut record is refused.
 fn step(input: &[u8], last: bool, p: Progress, out: &mut [u8]) -> Progress
     requires { ⌜ p .at ≤ length (now input) ⌝ }
+    requires { ⌜ HasRoom (now out) (p .filled) ⌝ }
     ensures { λ r. ⌜ r .at ≤ length (now (input .entry)) ⌝ }
+    ensures { λ r. ⌜ r .filled ≤ p .filled + recordRoom ⌝ }
 {
     let at = p.at;
     let filled = p.filled;
@@ -99,8 +106,9 @@ fn step(input: &[u8], last: bool, p: Progress, out: &mut [u8]) -> Progress
 // The output is written once half of its buffer is filled. Where that fails nothing more is read.
 fn emptied(p: Progress, out: &[u8]) -> Progress
     ensures { λ r. ⌜ r .at ≡ p .at ⌝ }
+    ensures { λ r. ⌜ r .filled < half ⌝ }
 {
-    if p.filled < 32_768 {
+    if p.filled < HALF {
         return p;
     }
     let failure = p.failure;
@@ -129,7 +137,10 @@ fn emptied(p: Progress, out: &[u8]) -> Progress
 // Every record that is whole in this piece.
 fn print_piece(input: &[u8], last: bool, p: Progress, out: &mut [u8]) -> Progress
     requires { ⌜ p .at ≤ length (now input) ⌝ }
+    requires { ⌜ p .filled < half ⌝ }
+    requires { ⌜ HasRoom (now out) half ⌝ }
     ensures { λ r. ⌜ r .at ≤ length (now (input .entry)) ⌝ }
+    ensures { λ r. ⌜ r .filled < half ⌝ }
 {
     let mut s = p;
     let mut turns = input.len();
@@ -141,7 +152,11 @@ fn print_piece(input: &[u8], last: bool, p: Progress, out: &mut [u8]) -> Progres
 }
 
 // One piece: read, print, keep what is not whole at the front.
-fn turn(p: Progress, buf: &mut [u8], out: &mut [u8]) -> Progress {
+fn turn(p: Progress, buf: &mut [u8], out: &mut [u8]) -> Progress
+    requires { ⌜ p .filled < half ⌝ }
+    requires { ⌜ HasRoom (now out) half ⌝ }
+    ensures { λ r. ⌜ r .filled < half ⌝ }
+{
     let kept = p.at;
     let filled = pieces::fill(buf, kept, true);
     let end = filled.end;
@@ -180,7 +195,9 @@ fn turn(p: Progress, buf: &mut [u8], out: &mut [u8]) -> Progress {
 }
 
 // All of standard input. What is printed of the records before a read that fails is written.
-fn print_all(buf: &mut [u8], out: &mut [u8]) -> Failure {
+fn print_all(buf: &mut [u8], out: &mut [u8]) -> Failure
+    requires { ⌜ HasRoom (now out) half ⌝ }
+{
     let mut p = Progress {
         at: 0,
         offset: 0,
