@@ -3,3 +3,4 @@ pub mod Meaning
 pub mod Theorem
 pub mod Runs
 pub mod UsedUp
+pub mod Whole

@@ -3,7 +3,7 @@
 use Prim.Native.Nat.{ℕ, zero, suc, _+_, _*_, _/_, _%_, _^_, _<_, _≤_}
 use mathlib.Core.Bool.{Bool, true}
 use mathlib.Core.List.{List, [], _∷_, _++_}
-use mathlib.Core.Path.{_≡_, sym, ap, _∙_}
+use mathlib.Core.Path.{_≡_, refl, sym, ap, _∙_}
 use native.Mathlib.Omega.{arith}
 use native.Mathlib.Numerals.{add-one}
 use borrow.Author.Tests.{leb-true, ltb-true, ltb-false}
@@ -47,6 +47,15 @@ written-moves (v ∷ line) p = omega (arith, written-moves line (putOf p v), mov
   where
     moved : putOf p v .filled ≤ p .filled + 1
     moved = if-by (λ (q : Page). q .filled ≤ p .filled + 1) (ltb (p .filled) (length (p .octets))) _ p (λ e. omega arith) (λ e. omega arith)
+
+-- and the buffer keeps its length
+pub length-written : (line : List ℕ) (p : Page) → length (written p line .octets) ≡ length (p .octets)
+unfolding written putOf
+length-written [] p = refl
+length-written (v ∷ line) p = length-written line (putOf p v) ∙ kept
+  where
+    kept : length (putOf p v .octets) ≡ length (p .octets)
+    kept = if-by (λ (q : Page). length (q .octets) ≡ length (p .octets)) (ltb (p .filled) (length (p .octets))) _ p (λ e. length-set (p .octets) (p .filled) v) (λ e. refl)
 
 pub written-ends : (out : List ℕ) (end n : ℕ) (p : Page) (line : List ℕ) → page out end ≡ written p line → length line ≤ n → end ≤ p .filled + n
 written-ends out end n p line e l = omega (arith, ap (λ (q : Page). q .filled) e, written-moves line p, l)

@@ -1,24 +1,33 @@
 -- The calls that an input of many records is, and what a run over a piece of it is to leave.
 use Prim.Native.Nat.{ℕ, _+_, _%_, _^_, _<_, _≤_}
-use mathlib.Core.Bool.{false}
+use mathlib.Core.Bool.{true, false}
 use mathlib.Core.List.{List, [], _∷_, _++_}
 use mathlib.Core.Path.{_≡_}
 use lib.ListN.{length, drop}
 use Rattle.record.specs.declared.Refusal.{Refusal}
 use Rattle.record.specs.Meaning.{refusalNumberOf}
 use Rattle.verdict.specs.declared.Answer.{Answer}
+use Rattle.verdict.specs.declared.Verdict.{Verdict}
 use Rattle.verdict.specs.declared.Verdict.the-variants.{Refused}
 use Rattle.stage.specs.Meaning.{Bridge, takeOf}
-use Rattle.text.specs.Meaning.{page, written}
+use Rattle.text.specs.Meaning.{lineRoom, page, written}
 use Rattle.run.specs.declared.Progress.{Progress}
-use Rattle.run.specs.Meaning.{againOf, Ran, pieceRunOf}
-use Rattle.run.specs.Input.Meaning.{Front, usedIn, arrivalsIn, toldOf}
+use Rattle.run.specs.Meaning.{againOf, roomOf, Ran, pieceRunOf}
+use Rattle.run.specs.Input.Meaning.{Front, usedIn, arrivalsIn, verdictLineOf, toldOf}
 use Rattle.promises.specs.Meaning.{Call}
 
 -- each record is a call that is given all the octets from there on
 abbrev pub callsOf : List ℕ → List Answer → List Call
 callsOf s [] = []
 callsOf s (a ∷ answers) = s ∷ callsOf (drop (a .used) s) answers
+
+-- no line of an answer is longer than the room that is kept for a line
+abbrev pub Brief : Verdict → Type 0
+Brief v = (n : ℕ) → length (verdictLineOf n v) ≤ lineRoom
+
+abbrev pub EachBrief : List Answer → Type 0
+EachBrief [] = Unit {0}
+EachBrief (a ∷ answers) = Brief (a .verdict) × EachBrief answers
 
 -- a run stops at a refusal, where there is no room for another line, or where no octet is left
 pub data Stops (b : Bridge) (rest : List ℕ) (p : Progress) : Type 0 where
@@ -38,6 +47,8 @@ pub record RunIs (input : List ℕ) (b : Bridge) (out : List ℕ) (p : Progress)
   pub quiet : r .progress .quiet ≡ p .quiet
   pub text : page (r .out) (r .progress .filled) ≡ written (page out (p .filled)) (toldOf (p .quiet) (p .arrivals) answers)
   pub stops : Stops (r .after) (drop (r .progress .at) input) (r .progress)
+  -- with room for a line at first, all their octets found a place
+  pub whole : roomOf (length out) (p .filled) ≡ true → EachBrief answers → p .filled + length (toldOf (p .quiet) (p .arrivals) answers) ≤ length out
 
 -- runs one after another, from the octets s and the later pieces on: each over what the last one left, with the next piece behind it, and into a page of its
 -- own. `last` is what the last of them leaves, and `rest` the octets that it does not take

@@ -5,7 +5,8 @@ use mathlib.Core.Bool.{Bool, true, false, cond}
 use mathlib.Core.List.{List, [], _∷_, _++_, append-nil, append-assoc}
 use mathlib.Core.Path.{_≡_, refl, sym, ap, subst, _∙_}
 use native.Mathlib.Omega.{arith}
-use lib.ListN.{length, drop, length-drop, drop-of-length-le}
+use borrow.Author.Tests.{leb-true}
+use lib.ListN.{length, drop, length-drop, length-append, drop-of-length-le}
 use lib.Seq.{drop-drop}
 use Rattle.record.specs.declared.Refusal.{Refusal}
 use Rattle.record.specs.Meaning.{refusalNumberOf}
@@ -13,13 +14,14 @@ use Rattle.verdict.specs.declared.Answer.{Answer}
 use Rattle.verdict.specs.declared.Verdict.{Verdict}
 use Rattle.verdict.specs.declared.Verdict.the-variants.{Refused, Taken, Passed, Dropped}
 use Rattle.stage.specs.Meaning.{Bridge, Took, takeOf}
-use Rattle.text.specs.Meaning.{Page, page, written, passLineOf, dropLineOf}
+use Rattle.text.specs.Meaning.{lineRoom, Page, page, written, passLineOf, dropLineOf}
 use Rattle.text.specs.Laws.{written-append, written-none}
+use Rattle.text.specs.Room.{room-whole, length-written}
 use Rattle.run.specs.declared.Progress.{Progress}
-use Rattle.run.specs.Meaning.{againOf, Printed, printed, printedBy, printedOf, movedOf, stoppedOf, Ran, ranTo, pieceRunOf}
+use Rattle.run.specs.Meaning.{againOf, roomOf, Printed, printed, printedBy, printedOf, movedOf, stoppedOf, Ran, ranTo, pieceRunOf}
 use Rattle.run.specs.Input.Meaning.{NoRefusal, Front, begins, takes, Input, arrivalIn, arrivalsIn, usedIn, verdictLineOf, linesOf, toldOf}
 use Rattle.promises.specs.Refusals.Keeps.{refused-changes-nothing}
-use Rattle.promises.specs.Pieces.Meaning.{Stops, refused, full, used-up, RunIs, RunsOn, ends, goes, joined, RunsAre}
+use Rattle.promises.specs.Pieces.Meaning.{Brief, EachBrief, Stops, refused, full, used-up, RunIs, RunsOn, ends, goes, joined, RunsAre}
 use Rattle.promises.specs.Pieces.Theorem.{uses-some, by-refusal, front-extends, front-follows}
 
 -- ---- what is told of an answer
@@ -48,6 +50,19 @@ told-on true n m w a answers e = written-none (written w []) ∙ written-none w 
 told-on false n m w a answers e =
     sym (written-append w (verdictLineOf n (a .verdict)) (linesOf m answers))
     ∙ ap (λ (xs : List ℕ). written w (verdictLineOf n (a .verdict) ++ xs)) (lines-wrap m (n + arrivalIn (a .verdict)) answers (omega (arith, e)))
+
+-- and how long that is
+told-length : (quiet : Bool) (n m : ℕ) (a : Answer) (answers : List Answer) → m ≡ (n + arrivalIn (a .verdict)) % 2 ^ 64
+    → length (toldOf quiet n (a ∷ answers)) ≡ length (cond quiet [] (verdictLineOf n (a .verdict))) + length (toldOf quiet m answers)
+unfolding linesOf
+told-length true n m a answers e = omega arith
+told-length false n m a answers e =
+    ap (λ (xs : List ℕ). length (verdictLineOf n (a .verdict) ++ xs)) (sym (lines-wrap m (n + arrivalIn (a .verdict)) answers (omega (arith, e)))) ∙ length-append (verdictLineOf n (a .verdict)) (linesOf m answers)
+
+told-nothing : (quiet : Bool) (n : ℕ) → _≡_ {A = ℕ} (length (toldOf quiet n [])) 0
+unfolding linesOf
+told-nothing true n = refl
+told-nothing false n = refl
 
 -- the page after a record that is taken, and how far the run is then
 abbrev pageAfter : List ℕ → Progress → Verdict → Page
@@ -87,7 +102,7 @@ pub record Going (input : List ℕ) (p : Progress) : Type 0 where
 
 module _ (input : List ℕ) (small : length input < 2 ^ 64) where
   -- no record is taken
-  stays : (b : Bridge) (out : List ℕ) (p q : Progress) → Going input p → q .at ≡ p .at → q .filled ≡ p .filled → q .records ≡ p .records → q .arrivals ≡ p .arrivals → q .quiet ≡ p .quiet
+  unfoldable stays : (b : Bridge) (out : List ℕ) (p q : Progress) → Going input p → q .at ≡ p .at → q .filled ≡ p .filled → q .records ≡ p .records → q .arrivals ≡ p .arrivals → q .quiet ≡ p .quiet
       → Stops b (drop (q .at) input) q → RunIs input b out p (ranTo b (printed out q))
   unfolding linesOf
   stays b out p q g at filled records arrivals quiet stop = record {
@@ -100,6 +115,7 @@ module _ (input : List ℕ) (small : length input < 2 ^ 64) where
     quiet = quiet;
     text = ap (page out) filled ∙ sym (written-none (page out (p .filled))) ∙ ap (written (page out (p .filled))) (nothing (p .quiet));
     stops = stop;
+    whole = λ room brief. omega (arith, told-nothing (p .quiet) (p .arrivals), leb-true (p .filled + lineRoom) (length out) room);
   }
     where
       nothing : (z : Bool) → [] ≡ toldOf z (p .arrivals) []
@@ -115,6 +131,9 @@ module _ (input : List ℕ) (small : length input < 2 ^ 64) where
       abbrev next : Printed
       next = goneOn out p (o .answer .used) (o .answer .verdict)
 
+      abbrev line : List ℕ
+      line = cond (p .quiet) [] (verdictLineOf (p .arrivals) (o .answer .verdict))
+
       ahead : next .progress .at ≡ p .at + o .answer .used
       ahead = let u = uses-some b rest o e h in omega (arith, u .1, length-drop (p .at) input, small, g .within)
 
@@ -129,8 +148,20 @@ module _ (input : List ℕ) (small : length input < 2 ^ 64) where
       fewer : (n : ℕ) → length input - p .at ≤ suc n → length input - next .progress .at ≤ n
       fewer n l = let u = uses-some b rest o e h in omega (arith, ahead, u .0, l)
 
-      prepend : (r : Ran) → RunIs input (o .after) (next .out) (next .progress) r → RunIs input b out p r
-      prepend r more = record {
+      -- its line finds its place where there is room for one
+      line-placed : roomOf (length out) (p .filled) ≡ true → Brief (o .answer .verdict) → (next .progress .filled ≡ p .filled + length line) × (p .filled + length line ≤ length out)
+      line-placed room brief =
+          let short : length line ≤ lineRoom = quiet-brief (p .quiet) in
+          (ap (λ (w : Page). w .filled) (room-whole out (p .filled) line short room), omega (arith, short, leb-true (p .filled + lineRoom) (length out) room))
+        where
+          quiet-brief : (z : Bool) → length (cond z [] (verdictLineOf (p .arrivals) (o .answer .verdict))) ≤ lineRoom
+          quiet-brief true = omega arith
+          quiet-brief false = brief (p .arrivals)
+
+      prepend : (r : Ran) (more : RunIs input (o .after) (next .out) (next .progress) r)
+          → (roomOf (length out) (p .filled) ≡ true → Brief (o .answer .verdict) → EachBrief (more .answers) → next .progress .filled + length (toldOf (p .quiet) (next .progress .arrivals) (more .answers)) ≤ length out)
+          → RunIs input b out p r
+      prepend r more placed = record {
         answers = o .answer ∷ more .answers;
         front =
             takes o e h
@@ -143,6 +174,7 @@ module _ (input : List ℕ) (small : length input < 2 ^ 64) where
         quiet = more .quiet;
         text = more .text ∙ told-on (p .quiet) (p .arrivals) (next .progress .arrivals) (page out (p .filled)) (o .answer) (more .answers) refl;
         stops = more .stops;
+        whole = λ room brief. omega (arith, told-length (p .quiet) (p .arrivals) (next .progress .arrivals) (o .answer) (more .answers) refl, line-placed room (brief .0) .0, placed room (brief .0) (brief .1));
       }
 
     -- the turn of a run: what is told of the call, and the turns after it
@@ -158,6 +190,7 @@ module _ (input : List ℕ) (small : length input < 2 ^ 64) where
 
     taken-turn : (n : ℕ) (h : NoRefusal (takeOf b rest .answer .verdict)) → RunIs input (takeOf b rest .after) (next (takeOf b rest) refl h .out) (next (takeOf b rest) refl h .progress) (pieceRunOf n input (takeOf b rest .after) (next (takeOf b rest) refl h .out) (next (takeOf b rest) refl h .progress))
         → RunIs input b out p (turned n (printedOf out p (takeOf b rest .answer)))
+    unfolding stays
     taken-turn n h more = subst (λ (d : Printed). RunIs input b out p (turned n d)) (sym (printed-taken out p (o .answer .used) (o .answer .verdict) (g .arrivals) h)) (by-room (d .progress .more) refl)
       where
         o : Took
@@ -166,9 +199,14 @@ module _ (input : List ℕ) (small : length input < 2 ^ 64) where
         d : Printed
         d = next o refl h
 
+        as-long : length (d .out) ≡ length out
+        as-long = length-written (line o refl h) (page out (p .filled))
+
         by-room : (z : Bool) → d .progress .more ≡ z → RunIs input b out p (cond z (pieceRunOf n input (o .after) (d .out) (d .progress)) (ranTo (o .after) d))
-        by-room true e = prepend o refl h _ more
-        by-room false e = prepend o refl h _ (stays (o .after) (d .out) (d .progress) (d .progress) (going o refl h) refl refl refl refl refl (full refl e))
+        by-room true e = prepend o refl h _ more (λ room first briefs. omega (arith, as-long, more .whole (ap (λ (n : ℕ). roomOf n (d .progress .filled)) as-long ∙ e) briefs))
+        by-room false e =
+            prepend o refl h _ (stays (o .after) (d .out) (d .progress) (d .progress) (going o refl h) refl refl refl refl refl (full refl e))
+            (λ room first briefs. let at = line-placed o refl h room first in omega (arith, at .0, at .1, told-nothing (p .quiet) (d .progress .arrivals)))
 
   -- as many turns as there are octets left are enough
   runs-within : (n : ℕ) (b : Bridge) (out : List ℕ) (p : Progress) → Going input p → length input - p .at ≤ n → RunIs input b out p (pieceRunOf n input b out p)

@@ -26,7 +26,7 @@ module _ (b : Bridge) (c : Call) (k : Sound (b .bank)) where
   pub arrival-ready : (a : ArrivalRecord) (used : ℕ) → readOf c (startedOf (b .bank)) ≡ reading.Taken (kind.Arrival a) used → Ready b a
   arrival-ready a used e =
       let h = read-ranges c (startedOf (b .bank)) (kind.Arrival a) used e in
-      record { sound = k; begun = read-in-turn c (startedOf (b .bank)) (kind.Arrival a) used e; time-high = h .2; priority-high = h .3; msdu-high = h .5 }
+      record { sound = k; begun = read-in-turn c (startedOf (b .bank)) (kind.Arrival a) used e; time-high = h .2; priority-high = h .3; mark-high = h .4; msdu-high = h .5 }
 
   record-sound : (r : Record) (used : ℕ) → readOf c (startedOf (b .bank)) ≡ reading.Taken r used → Sort r → Sound (takenOf b c r used .after .bank)
   unfolding takenOf

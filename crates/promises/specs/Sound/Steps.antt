@@ -32,6 +32,7 @@ pub record Ready (b : Bridge) (a : ArrivalRecord) : Type 0 where
   pub begun : startedOf (b .bank) ≡ true
   pub time-high : a .time ≤ 2 ^ 62
   pub priority-high : a .priority ≤ 7
+  pub mark-high : a .«drop_eligible» ≤ 1
   pub msdu-high : a .msdu ≤ 2000
 
 module _ (b : Bridge) (a : ArrivalRecord) (ready : Ready b a) where

@@ -1,6 +1,6 @@
 -- Demand 2, one frame: whatever calls came before, and whatever was written into the lent table between them, the verdict of a frame is the one that document 01
 -- gives, and no other. A meter or a scheduler that a frame reaches never refuses it, and its class is always that of the table.
-use Prim.Native.Nat.{ℕ, _≤_, _<_}
+use Prim.Native.Nat.{ℕ, _+_, _^_, _≤_, _<_}
 use mathlib.Core.Bool.{Bool, true, false, cond}
 use mathlib.Core.List.{List, [], _∷_}
 use mathlib.Core.Logic.{_≢_, _↔_}
@@ -37,7 +37,7 @@ use Rattle.path.specs.Meaning.{internalOf, chargedOf, colouredOf, meteredBy, of
 use Rattle.stage.specs.Meaning.{Bridge, keyOf, firstRow, startedOf, refusedOf, takenOf, readBy, takeOf}
 use Rattle.promises.specs.Meaning.{Call, fresh, runOf}
 use Rattle.promises.specs.Refusals.Keeps.{answered-verdict}
-use Rattle.promises.specs.Sound.Meaning.{Reached, begins, calls, InBounds, colourAt, eligibleAt, latestAt, AtMeter, AtScheduler, ColouredAs, ResidenceExceeded, EligibleAs, Given, unmatched, drop-6, drop-7, unscheduled, scheduled, drop-8}
+use Rattle.promises.specs.Sound.Meaning.{Reached, begins, calls, InBounds, colourAt, eligibleAt, latestAt, AtMeter, Marked, unmetered, green, yellow, AtScheduler, ColouredAs, ResidenceExceeded, EligibleAs, Given, unmatched, drop-6, drop-7, unscheduled, scheduled, drop-8}
 use Rattle.promises.specs.Sound.Steps.{Ready, in-table, internal-high, coloured-is, length-high, scheduler-in-range, meter-in-range}
 use Rattle.promises.specs.Sound.Every.{some-given}
 use Rattle.promises.specs.Sound.Frames.{t₅, by-meter, step-5, by-offer, told-given}
@@ -136,6 +136,24 @@ module _ (b : Bridge) (reached : Reached b) (whole : length (b .table) ≡ filte
   class-below-classes p e =
       let h = class-of-table p e in
       omega (arith, h .1, class-below (p .priority) (component (b .bank) .classes) (table-of (p .priority) (component (b .bank) .classes) (h .0)))
+
+  -- and no number in it is out of document 01's bounds
+  pub pass-in-bounds : (p : Pass) → verdict ≡ Passed p → (p .priority ≤ 7) × (p .class < 8) × (p .«drop_mark» ≤ 1) × (p .eligible ≤ 2 ^ 62 + 1_000_000_000)
+  pass-in-bounds p e =
+      let class : p .class < 8 = omega (arith, class-below-classes p e, ready .sound .classes) in
+      let others = by-case p (given-verdict (Passed p) e) in
+      (others .0, class, others .1 .0, others .1 .1)
+    where
+      mark-high : (row : Filter) (mark : ℕ) → Marked b a row mark → mark ≤ 1
+      mark-high row mark (unmetered h) = ready .mark-high
+      mark-high row mark (green h h′) = ready .mark-high
+      mark-high row mark (yellow h h′) = omega arith
+
+      by-case : (p : Pass) → Given b a (Passed p) → (p .priority ≤ 7) × ((p .«drop_mark» ≤ 1) × (p .eligible ≤ 2 ^ 62 + 1_000_000_000))
+      by-case p (unmatched h h′) = (ready .priority-high, (ready .mark-high, omega arith))
+      by-case p (unscheduled f row ipv mark h h′) = (internal-high b a ready ipv, (mark-high row mark (h .marked), omega arith))
+      by-case p (scheduled f row ipv mark h h′) =
+          (internal-high b a ready ipv, (mark-high row mark (h .past-meter .marked), omega (arith, h′, ready .time-high, ready .sound .groups (schedulerGroup (b .bank) (row .scheduler)) .residence-high)))
 
   -- ---- no step refuses a frame that comes to it
 
