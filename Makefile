@@ -4,8 +4,9 @@
 # compare       every case and random streams through the programs, the C library and the second program
 # bench         nanoseconds beside plain Rust, as ratios
 # check-second  the second program's own tests;  check-example  the C example, plain and under the compiler's checks
+# check-streams what the programs say of a read or a write that fails
 # check-sizes   the sizes of the code, the definitions, the header and the tests: one size, one number
-.PHONY: run test lib compare bench check-second check-example check-sizes second programs
+.PHONY: run test lib compare bench check-second check-example check-streams check-sizes second programs
 
 CARGO = cargo --quiet
 SECOND = target/second/release
@@ -35,6 +36,9 @@ check-second:
 
 check-example: lib
 	@examples/run.sh
+
+check-streams: programs
+	@tests/streams.sh
 
 check-sizes:
 	@.ci/sizes

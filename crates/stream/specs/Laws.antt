@@ -1,5 +1,5 @@
 -- A piece takes a stream from one place to the next, and at its end the stream is what `Drains` says.
-use Prim.Native.Nat.{ℕ, _+_, _-_, _%_, _^_, _<_, _≤_}
+use Prim.Native.Nat.{ℕ, _+_, _-_, _%_, _^_, _<_}
 use mathlib.Core.Bool.{Bool, true, false, _&&_, _||_}
 use mathlib.Core.List.{List, [], _++_}
 use mathlib.Core.Path.{_≡_, refl, sym, ap, subst, _∙_}
@@ -22,28 +22,29 @@ use Rattle.run.specs.declared.Progress.{Progress}
 use Rattle.run.specs.Meaning.{freshProgressOf, againOf, ran, pieceRunOf}
 use Rattle.run.specs.Input.Meaning.{Front, begins}
 use Rattle.pieces.specs.declared.Failure.{Failure}
-use Rattle.pieces.specs.declared.Failure.the-variants.{Nothing}
+use Rattle.pieces.specs.declared.Failure.the-variants.{Nothing, Output}
 use Rattle.pieces.specs.Meaning.{Fills, Kept, keptOf}
 use Rattle.pieces.specs.Laws.{kept-stays}
 use Rattle.promises.specs.Meaning.{repeated}
 use Rattle.promises.specs.Pieces.Meaning.{RunIs, Stops, refused, full, used-up}
 use Rattle.promises.specs.Pieces.Theorem.{front-extends, front-follows}
-use Rattle.promises.specs.Pieces.Runs.{Going, again-going, run-is-front, counted-on}
+use Rattle.promises.specs.Pieces.Runs.{again-going, run-is-front, counted-on}
 use Rattle.stream.specs.declared.State.{State}
 use Rattle.promises.specs.Pieces.UsedUp.{front-length, no-octet-left}
 use Rattle.stream.specs.declared.Drained.{Drained}
-use Rattle.stream.specs.Meaning.{emptyTable, endedOf, failureOf, Drains}
+use Rattle.stream.specs.Meaning.{emptyTable, endedOf, failureOf, writeFailureOf, Drains}
 use Rattle.stream.specs.Stands.{Stands}
 
--- the tests of the code: octets were asked for, and a refusal above 1 ends a stream
+-- the tests of the code: octets were asked for and none came, and a refusal above 1 ends a stream
 pub asked-empty : (refusal kept : ℕ) (z : Bool) → ((ltb 0 refusal || eqb kept 0) && z) ≡ true → refusal ≡ 0 → kept ≡ 0
 asked-empty refusal kept z e n = eqb-true kept 0 (right (both (ltb 0 refusal || eqb kept 0) z e .0))
   where
     right : (ltb 0 refusal || eqb kept 0) ≡ true → eqb kept 0 ≡ true
     right h = sym (ap (λ (t : Bool). t || eqb kept 0) (le-ltb 0 refusal (omega (arith, n)))) ∙ h
 
-pub refused-above : (refusal left : ℕ) → leb refusal 1 ≡ false → refusal ≡ 0 → left ≡ 0
-refused-above refusal left e n = absurd (omega (arith, leb-false refusal 1 e, n))
+pub refused-above : (written : Bool) (refusal left : ℕ) (f : Failure) → f ≡ writeFailureOf written → (written && leb refusal 1) ≡ false → f ≡ Nothing → refusal ≡ 0 → left ≡ 0
+refused-above true refusal left f e m n z = absurd (omega (arith, leb-false refusal 1 m, z))
+refused-above false refusal left f e m n z = absurd (let same : Nothing ≡ Output = sym n ∙ e in let z : _≡_ {A = ℕ} 0 1 = cc in omega arith)
 
 -- before the first piece
 module _ (bank : Rows) (lists buf : List ℕ) where

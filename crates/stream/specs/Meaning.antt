@@ -12,7 +12,7 @@ use Rattle.bank.specs.Meaning.{Rows}
 use Rattle.filter.specs.declared.Filter.{Filter}
 use Rattle.filter.specs.Meaning.{noRow}
 use Rattle.verdict.specs.declared.Answer.{Answer}
-use Rattle.stage.specs.Meaning.{Bridge, bridge}
+use Rattle.stage.specs.Meaning.{bridge}
 use Rattle.text.specs.Meaning.{endLineOf, refusedLineOf}
 use Rattle.run.specs.Input.Meaning.{Front, Input, usedIn}
 use Rattle.pieces.specs.declared.Failure.{Failure}
@@ -31,6 +31,9 @@ endedOf refusal left = cond (eqb refusal 1 && eqb left 0) 0 refusal
 -- a stream that goes on after all its turns is given up as one that cannot be read
 abbrev pub failureOf : Bool → Failure → Failure
 failureOf more failure = cond more InputFailure failure
+
+abbrev pub writeFailureOf : Bool → Failure
+writeFailureOf written = cond written Nothing Output
 
 -- for some octets that were read, the stream has taken records at their front, from an empty table and the bank and lists as they were; and unless something has
 -- failed, it has come to the end of that input

@@ -9,7 +9,7 @@ ghost use mathlib.Core.Path.{_≡_};
 ghost use Rattle.bank.specs.Meaning.{rowsOf};
 ghost use Rattle.stage.specs.Meaning.{Bridge, bridge};
 ghost use Rattle.text.specs.Meaning.{page, written};
-ghost use Rattle.stream.specs.Meaning.{Drains, Reported, emptyTable, endedOf, endOf, lastLineOf, failureOf};
+ghost use Rattle.stream.specs.Meaning.{Drains, Reported, emptyTable, endedOf, endOf, lastLineOf, failureOf, writeFailureOf};
 ghost use Rattle.stream.specs.Stands.{Stands};
 
 // How a stream ended.
@@ -34,7 +34,7 @@ struct State {
 }
 
 // Everything that standard input has, from an empty table on; `quiet` where no line is to be written for an arrival.
-// Ruled out: the end told where octets are left; the records of the last piece alone.
+// Ruled out: the end told where octets are left; the octets told for the records.
 pub fn drain(bank: &mut Words, lists: &mut Lists, quiet: bool) -> Drained
     ensures { λ r. ⌜ Drains (rowsOf (now (bank .entry))) (now (lists .entry)) (rowsOf (now (bank .exit))) (now (lists .exit)) r ⌝ }
 {
@@ -183,23 +183,22 @@ fn piece(s: State, bank: &mut Words, lists: &mut Lists, buf: &mut [u8], out: &mu
     let next = c.table;
     let p = c.progress;
     let left = pieces::keep(buf, p.at, end);
-    let octets = std::num::wrapping_add_u64(s.octets, (end - left) as u64);
-    if pieces::write(out, p.filled) {
-        return State {
-            table: next,
-            kept: left,
-            octets: octets,
-            progress: p,
-            more: p.refusal <= 1,
-            failure: Failure::Nothing,
-        };
-    }
+    let is_written = pieces::write(out, p.filled);
     State {
         table: next,
         kept: left,
-        octets: octets,
+        octets: std::num::wrapping_add_u64(s.octets, (end - left) as u64),
         progress: p,
-        more: false,
-        failure: Failure::Output,
+        more: is_written & (p.refusal <= 1),
+        failure: write_failure(is_written),
     }
+}
+
+fn write_failure(done: bool) -> Failure
+    ensures { λ r. ⌜ r ≡ writeFailureOf done ⌝ }
+{
+    if done {
+        return Failure::Nothing;
+    }
+    Failure::Output
 }

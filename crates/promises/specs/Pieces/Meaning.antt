@@ -29,6 +29,13 @@ abbrev pub EachBrief : List Answer → Type 0
 EachBrief [] = Unit {0}
 EachBrief (a ∷ answers) = Brief (a .verdict) × EachBrief answers
 
+-- a progress from which a run may begin or go on, within the piece
+pub record Going (input : List ℕ) (p : Progress) : Type 0 where
+  pub within : p .at ≤ length input
+  pub none : p .refusal ≡ 0
+  pub records : p .records < 2 ^ 64
+  pub arrivals : p .arrivals < 2 ^ 64
+
 -- a run stops at a refusal, where there is no room for another line, or where no octet is left
 pub data Stops (b : Bridge) (rest : List ℕ) (p : Progress) : Type 0 where
   refused : (why : Refusal) → takeOf b rest .answer .verdict ≡ Refused why → p .refusal ≡ refusalNumberOf why → Stops b rest p

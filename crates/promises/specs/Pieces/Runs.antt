@@ -21,7 +21,7 @@ use Rattle.run.specs.declared.Progress.{Progress}
 use Rattle.run.specs.Meaning.{againOf, roomOf, Printed, printed, printedBy, printedOf, movedOf, stoppedOf, Ran, ranTo, pieceRunOf}
 use Rattle.run.specs.Input.Meaning.{NoRefusal, Front, begins, takes, Input, arrivalIn, arrivalsIn, usedIn, verdictLineOf, linesOf, toldOf}
 use Rattle.promises.specs.Refusals.Keeps.{refused-changes-nothing}
-use Rattle.promises.specs.Pieces.Meaning.{Brief, EachBrief, Stops, refused, full, used-up, RunIs, RunsOn, ends, goes, joined, RunsAre}
+use Rattle.promises.specs.Pieces.Meaning.{Brief, EachBrief, Going, Stops, refused, full, used-up, RunIs, RunsOn, ends, goes, joined, RunsAre}
 use Rattle.promises.specs.Pieces.Theorem.{uses-some, by-refusal, front-extends, front-follows}
 
 -- ---- what is told of an answer
@@ -92,13 +92,6 @@ printed-taken out p used (Dropped d) l h = ap (movedOf out p used ((p .arrivals 
     said false = refl
 
 -- ---- a run, turn by turn
-
--- a progress from which a run may begin or go on, within the piece
-pub record Going (input : List ℕ) (p : Progress) : Type 0 where
-  pub within : p .at ≤ length input
-  pub none : p .refusal ≡ 0
-  pub records : p .records < 2 ^ 64
-  pub arrivals : p .arrivals < 2 ^ 64
 
 module _ (input : List ℕ) (small : length input < 2 ^ 64) where
   -- no record is taken

@@ -33,8 +33,8 @@ use Rattle.promises.specs.Ways.{Called, unread, read, called-way}
 use Rattle.promises.specs.Refusals.Keeps.{answered-verdict}
 use Rattle.promises.specs.Sound.Meaning.{Reached, calls}
 use Rattle.promises.specs.Sound.Theorem.{pass-in-bounds}
-use Rattle.promises.specs.Pieces.Meaning.{Brief, EachBrief}
-use Rattle.promises.specs.Pieces.Runs.{Going, run-is-front}
+use Rattle.promises.specs.Pieces.Meaning.{Brief, EachBrief, Going}
+use Rattle.promises.specs.Pieces.Runs.{run-is-front}
 use Rattle.promises.specs.Pieces.UsedUp.{front-length}
 use Rattle.record.specs.declared.Record.the-variants as kind
 use Rattle.record.specs.declared.Reading.the-variants as reading

@@ -1,11 +1,10 @@
 -- `stream::piece` is safe and ends, and takes the stream on. Assumes nothing.
-use Prim.Native.Nat.{ℕ}
-use mathlib.Core.Bool.{false}
-use mathlib.Core.Path.{_≡_, sym, ap, _∙_}
+use Prim.Native.Nat.{ℕ, _<_, _^_}
+use mathlib.Core.Path.{_≡_, ap, _∙_}
 use native.Mathlib.Omega.{arith}
 use lib.ListN.{length, take, length-take}
 use borrow.Author.Needs.{needs}
-use Rattle.pieces.specs.declared.Failure.the-variants.{Nothing, Input, Output}
+use Rattle.pieces.specs.declared.Failure.the-variants.{Nothing, Input}
 use Rattle.pieces.specs.Meaning.{Kept}
 use Rattle.pieces.specs.Laws.{waiting-at-most}
 use Rattle.stage.specs.Meaning.{bridge}
@@ -34,29 +33,21 @@ slice-aggregate-run-piece c =
 
 -- what is taken is what does not wait
 sub-wrapping-add-u64 : tie.Need-sub-wrapping-add-u64
-sub-wrapping-add-u64 c = rw (ap (λ (k : Kept). k .waiting) (c .before .before .keep .ensures)) (waiting-at-most _ _ _)
+sub-wrapping-add-u64 c = rw (ap (λ (k : Kept). k .waiting) (c .before .before .before .before .keep .ensures)) (waiting-at-most _ _ _)
 
 returns-3 : tie.Need-returns-3
 returns-3 c b st =
-    let w = c .before .before .before .before in
-    let k = w .before .before .before in
+    let w = c .before .before in
+    let k = w .before .before .before .before .before in
     let r = k .before .before .before .before .before .before in
     let n = r .before .before .before .before .before in
     let f = n .before .before .before .before .before in
     let a = f .before .before .before .before .before .before .before .args in
-    let e = r .run-piece .ensures ∙ ap (pieceRunOf (length (take (f .fill .result .end) (f .fill .last .0))) (take (f .fill .result .end) (f .fill .last .0)) (bridge (a .s .table) (rowsOf (a .bank .now)) (a .lists .now)) (a .out .now)) (n .again .ensures) in
-    stands-on b (a .s) _ (a .lists .now) (a .buf .now) _ _ (f .fill .ensures) st (omega (arith, f .fill .ok .1 .1 .0 .1)) _ _ _ _ _ _ e _ _ (k .keep .ensures) _ (w .wrapping-add-u64 .ensures) _ Nothing (λ m e. refused-above _ _ m)
-
-returns-4 : tie.Need-returns-4
-returns-4 c b st =
-    let w = c .before .before .before in
-    let k = w .before .before .before in
-    let r = k .before .before .before .before .before .before in
-    let n = r .before .before .before .before .before in
-    let f = n .before .before .before .before .before in
-    let a = f .before .before .before .before .before .before .before .args in
-    let e = r .run-piece .ensures ∙ ap (pieceRunOf (length (take (f .fill .result .end) (f .fill .last .0))) (take (f .fill .result .end) (f .fill .last .0)) (bridge (a .s .table) (rowsOf (a .bank .now)) (a .lists .now)) (a .out .now)) (n .again .ensures) in
-    stands-on b (a .s) _ (a .lists .now) (a .buf .now) _ _ (f .fill .ensures) st (omega (arith, f .fill .ok .1 .1 .0 .1)) _ _ _ _ _ _ e _ _ (k .keep .ensures) _ (w .wrapping-add-u64 .ensures) false Output (λ m e. absurd (let z : _≡_ {A = ℕ} 0 1 = cc in omega arith))
+    let piece = take (f .fill .result .end) (f .fill .last .0) in
+    let run = r .run-piece .ensures ∙ ap (pieceRunOf (length piece) piece (bridge (a .s .table) (rowsOf (a .bank .now)) (a .lists .now)) (a .out .now)) (n .again .ensures) in
+    -- `end` is a usize
+    let small : f .fill .result .end < 2 ^ 64 = omega (arith, f .fill .ok .1 .1 .0 .1) in
+    stands-on b (a .s) _ (a .lists .now) (a .buf .now) _ _ (f .fill .ensures) st small _ _ _ _ _ _ run _ _ (k .keep .ensures) _ (w .wrapping-add-u64 .ensures) _ _ (refused-above (w .before .write .result) _ _ _ (c .write-failure .ensures))
 
 pub piece-spec : {M : Type 1} → statement M
 piece-spec =
@@ -72,12 +63,10 @@ piece-spec =
     slice-aggregate-run-piece
     (λ c κs. search needs)
     (λ c κs. search needs)
+    (λ c κs. search needs)
     sub-wrapping-add-u64
     (λ c κs. search needs)
     (λ c κs. search needs)
     (λ c. search needs)
     (λ c. search needs)
-    returns-3
-    (λ c. search needs)
-    (λ c. search needs)
-    returns-4)
+    returns-3)
