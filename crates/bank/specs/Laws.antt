@@ -275,7 +275,7 @@ module _ (s : Rows) (i : ℕ) (x : Scheduler) (j : ℕ) where
   scheduler-state-keeps-group = row-kept (λ (row : List ℕ). word row 1 % groupCount) s (schedulerRow i) (rowOfSchedulerState (s (schedulerRow i)) x) refl (schedulerRow j)
 
   pub scheduler-state-keeps-burst : burst (withSchedulerState s i x) j ≡ burst s j
-  scheduler-state-keeps-burst = row-kept (λ (row : List ℕ). schedulerIn row .burst .0) s (schedulerRow i) (rowOfSchedulerState (s (schedulerRow i)) x) refl (schedulerRow j)
+  scheduler-state-keeps-burst = row-kept (λ (row : List ℕ). schedulerIn row .burst) s (schedulerRow i) (rowOfSchedulerState (s (schedulerRow i)) x) refl (schedulerRow j)
 
   pub scheduler-state-keeps-rate : scheduler (withSchedulerState s i x) j .rate ≡ scheduler s j .rate
   scheduler-state-keeps-rate =
@@ -292,4 +292,4 @@ module _ (s : Rows) (i r : ℕ) (vs : List ℕ) (h : schedulerRow i ≢ r) where
   schedulerGroup-frame = ap (λ (row : List ℕ). word row 1 % groupCount) (row-other s r vs (schedulerRow i) h)
 
   pub burst-frame : burst (withRow s r vs) i ≡ burst s i
-  burst-frame = ap (λ (row : List ℕ). schedulerIn row .burst .0) (row-other s r vs (schedulerRow i) h)
+  burst-frame = ap (λ (row : List ℕ). schedulerIn row .burst) (row-other s r vs (schedulerRow i) h)

@@ -310,8 +310,8 @@ schedulerIsSet s i = isSet (word (s (schedulerRow i)) 0)
 abbrev pub schedulerGroup : Rows → ℕ → ℕ
 schedulerGroup s i = word (s (schedulerRow i)) 1 % groupCount
 
-abbrev pub burst : Rows → ℕ → ℕ
-burst s i = scheduler s i .burst .0
+abbrev pub burst : Rows → ℕ → Octets
+burst s i = scheduler s i .burst
 
 abbrev pub rowOfScheduler : ℕ → Scheduler → List ℕ
 rowOfScheduler g x = 1 ∷ g ∷ x .rate .0 ∷ x .burst .0 ∷ x .level ∷ x .last ∷ 0 ∷ 0 ∷ []

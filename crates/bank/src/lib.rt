@@ -449,13 +449,13 @@ pub fn scheduler_group(w: &Words, i: usize) -> usize
     (w[b + 1] % sizes::GROUPS as u64) as usize
 }
 
-// The burst of scheduler `i`, in octets.
+// The burst of scheduler `i`.
 // Ruled out: a word of another table; a burst cut to 16 bits.
-pub fn burst_at(w: &Words, i: usize) -> u64
+pub fn burst_at(w: &Words, i: usize) -> Octets
     ensures { λ r. ⌜ r ≡ burst (rowsOf (now (w .entry))) i ⌝ }
 {
     let b = (SCHEDULERS + i % sizes::SCHEDULERS) * sizes::ROW;
-    w[b + 3] % 4_294_967_296
+    Octets((w[b + 3] % 4_294_967_296) as u32)
 }
 
 // The record of the scheduler is taken.

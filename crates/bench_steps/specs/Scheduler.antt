@@ -5,6 +5,7 @@ use lib.ListN.{getD, set}
 use Rattle.scheduler.specs.declared.Scheduler.{Scheduler}
 use Rattle.scheduler.specs.declared.Stepped.{Stepped as Offered}
 use Rattle.scheduler.specs.Meaning.{schedulerNumberOf, schedulerStepOf}
+use Rattle.scheduler.specs.Worked.{groupAfter}
 use Rattle.bench_steps.specs.Words.{Stepped}
 
 abbrev pub schedulerOf : List ℕ → Scheduler
@@ -17,7 +18,7 @@ schedulerOf words = record {
 
 -- what a step changes: the level, and both last times
 abbrev pub putOf : List ℕ → Offered → List ℕ
-putOf words r = set (set (set words 2 (r .scheduler .level)) 3 (r .scheduler .last)) 4 (r .group)
+putOf words r = set (set (set words 2 (r .scheduler .level)) 3 (r .scheduler .last)) 4 (groupAfter (getD words 4 0) (r .outcome))
 
 abbrev pub toldBy : List ℕ → Offered → Stepped
 toldBy words r = record { words = putOf words r; answer = schedulerNumberOf (r .outcome) }

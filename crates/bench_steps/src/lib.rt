@@ -6,7 +6,9 @@ use meter::Meter;
 use scheduler::Scheduler;
 ghost use mathlib.Core.Path.{_≡_};
 ghost use Prim.Native.Nat.{_<_};
+ghost use Rattle.gate.specs.Meaning.{gateNumberOf};
 ghost use Rattle.scheduler.specs.Meaning.{schedulerNumberOf};
+ghost use Rattle.scheduler.specs.Worked.{groupAfter};
 ghost use Rattle.bench_steps.specs.Words.{Stepped};
 ghost use Rattle.bench_steps.specs.Scheduler.{offeredOf};
 ghost use Rattle.bench_steps.specs.Meter.{colouredOf, toldOf};
@@ -29,13 +31,25 @@ pub extern "C" fn bench_scheduler_step(
         level: words[2],
         last: words[3],
     };
-    let r = scheduler::step(s, words[4], residence, arrival, Octets(length));
+    let group = words[4];
+    let r = scheduler::offered(s, group, residence, arrival, Octets(length));
     let n = r.scheduler;
+    let o = r.outcome;
     words[2] = n.level;
     words[3] = n.last;
-    words[4] = r.group;
-    let o = r.outcome;
+    words[4] = group_after(group, o);
     admitted(o)
+}
+
+// The group's last time, which was `group`.
+fn group_after(group: u64, o: scheduler::Outcome) -> u64
+    ensures { λ r. ⌜ r ≡ groupAfter group o ⌝ }
+{
+    match o {
+        scheduler::Outcome::Admitted { at } => at,
+        scheduler::Outcome::Dropped => group,
+        scheduler::Outcome::Refused => group,
+    }
 }
 
 fn admitted(o: scheduler::Outcome) -> u64
@@ -133,7 +147,18 @@ fn load(words: &[u64; 9]) -> Gate
 fn code(o: gate::Outcome) -> u64
     ensures { λ r. ⌜ r ≡ codeOf o ⌝ }
 {
-    wide(gate::number(o)) * 256 + wide(ipv(o))
+    wide(number(o)) * 256 + wide(ipv(o))
+}
+
+fn number(o: gate::Outcome) -> u8
+    ensures { λ r. ⌜ r ≡ gateNumberOf o ⌝ }
+{
+    match o {
+        gate::Outcome::Passed(_) => 0,
+        gate::Outcome::Blocked => 3,
+        gate::Outcome::Closed => 4,
+        gate::Outcome::TooManyOctets => 5,
+    }
 }
 
 fn ipv(o: gate::Outcome) -> u8

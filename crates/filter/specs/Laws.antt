@@ -7,6 +7,7 @@ use borrow.Author.Tests.{leb-true, ltb-false, eqb-true, eqb-false, ne-eqb, not-t
 use lib.Dec.{eqb, leb, ltb}
 use Rattle.sizes.specs.Meaning.{lastGate, lastMeter, lastScheduler}
 use Rattle.logic.specs.Laws.{and-left, and-right, and-false, neither-left, neither-right, conjuncts}
+use Rattle.bucket.specs.declared.Octets.{Octets}
 use Rattle.frame.specs.Meaning.{lengthOf}
 use Rattle.bank.specs.Meaning.{Rows, gateIsSet, meterIsSet, schedulerIsSet, burst, component}
 use Rattle.filter.specs.declared.Filter.{Filter}
@@ -94,16 +95,16 @@ module _ (s : Rows) (f : Filter) where
   none = eqb (f .«max_sdu») 0
 
   abbrev exceeding : Bool
-  exceeding = ltb (burst s (f .scheduler)) (lengthOf (f .«max_sdu») (component s .overhead))
+  exceeding = ltb (burst s (f .scheduler) .0) (lengthOf (f .«max_sdu») (component s .overhead))
 
   -- a row with a scheduler has a max SDU, and with the largest overhead the burst holds it
   pub counts-max-sdu : countsOf s f ≡ true → f .scheduler ≢ 255 → f .«max_sdu» ≢ 0
   unfolding exceedsBurst
   counts-max-sdu e h = eqb-false (f .«max_sdu») 0 (neither-left none exceeding (named (f .scheduler) (none || exceeding) h (within-burst e)))
 
-  pub counts-holds : countsOf s f ≡ true → f .scheduler ≢ 255 → lengthOf (f .«max_sdu») (component s .overhead) ≤ burst s (f .scheduler)
+  pub counts-holds : countsOf s f ≡ true → f .scheduler ≢ 255 → lengthOf (f .«max_sdu») (component s .overhead) ≤ burst s (f .scheduler) .0
   unfolding exceedsBurst
-  counts-holds e h = ltb-false (burst s (f .scheduler)) (lengthOf (f .«max_sdu») (component s .overhead)) (neither-right none exceeding (named (f .scheduler) (none || exceeding) h (within-burst e)))
+  counts-holds e h = ltb-false (burst s (f .scheduler) .0) (lengthOf (f .«max_sdu») (component s .overhead)) (neither-right none exceeding (named (f .scheduler) (none || exceeding) h (within-burst e)))
 
   -- what a question asks decides its answer
   pub answers-asked : (q : Question) (a : Asks) → q .asks ≡ a → rowAnswers s q f ≡ asked a s (q .key) f
@@ -152,7 +153,7 @@ module _ (s s′ : Rows) (same : SameParts s s′) (f : Filter) where
 
   exceeds-burst-same : exceedsBurst s f ≡ exceedsBurst s′ f
   unfolding exceedsBurst
-  exceeds-burst-same = rw (same .bursts (f .scheduler), same .overhead) refl
+  exceeds-burst-same = rw (ap (λ (b : Octets). b .0) (same .bursts (f .scheduler)), same .overhead) refl
 
   pub counts-same : countsOf s f ≡ countsOf s′ f
   unfolding countsOf

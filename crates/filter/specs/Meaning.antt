@@ -42,7 +42,7 @@ namesMissing s f =
 
 -- refusal 8: a scheduler is named, and there is no max SDU, or a frame of that length exceeds the burst at the largest port overhead
 unfoldable pub exceedsBurst : Rows → Filter → Bool
-exceedsBurst s f = not (eqb (f .scheduler) 255) && (eqb (f .«max_sdu») 0 || ltb (burst s (f .scheduler)) (lengthOf (f .«max_sdu») (component s .overhead)))
+exceedsBurst s f = not (eqb (f .scheduler) 255) && (eqb (f .«max_sdu») 0 || ltb (burst s (f .scheduler) .0) (lengthOf (f .«max_sdu») (component s .overhead)))
 
 -- after start: a row that is a filter and that start would not refuse. Any other place counts as empty
 unfoldable pub countsOf : Rows → Filter → Bool

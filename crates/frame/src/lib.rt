@@ -15,11 +15,12 @@ pub fn length(msdu: u16, overhead: u8) -> Octets
 // Whether such a length is more than a burst, for every number that fits: an overhead that no port record gave could wrap the sum, so it is
 // taken off the burst.
 // Ruled out: a length that equals the burst; a sum that wraps and so seems small.
-pub fn exceeds(msdu: u16, overhead: u64, burst: u64) -> bool
-    ensures { λ r. ⌜ r ≡ ltb burst (lengthOf msdu overhead) ⌝ }
+pub fn exceeds(msdu: u16, overhead: u64, burst: Octets) -> bool
+    ensures { λ r. ⌜ r ≡ ltb (burst .0) (lengthOf msdu overhead) ⌝ }
 {
-    if burst < overhead {
+    let octets = burst.0 as u64;
+    if octets < overhead {
         return true;
     }
-    burst - overhead < msdu as u64
+    octets - overhead < msdu as u64
 }

@@ -6,7 +6,7 @@ ghost use mathlib.Core.Path.{_≡_};
 ghost use Prim.Native.Nat.{_+_, _-_, _*_, _%_, _<_, _≤_};
 ghost use lib.ListN.{length};
 ghost use Rattle.sizes.specs.Meaning.{entryOctets};
-ghost use Rattle.gate.specs.Meaning.{wordOf, entryAt, entriesOf, cycleOf, foundOf, inForceOf, gateNumberOf, spentOf, closedOf, limitedOf, passedOf, gateStepOf};
+ghost use Rattle.gate.specs.Meaning.{wordOf, entryAt, entriesOf, cycleOf, foundOf, inForceOf, spentOf, closedOf, limitedOf, passedOf, gateStepOf};
 
 // A gate as its record sets it up (01, kind 3), with its flags and its count. All zeros but for the record's fields is a
 // fresh gate.
@@ -46,6 +46,7 @@ pub enum InForce {
     Here(Found),
 }
 
+// What becomes of a frame. `gateNumberOf` in specs/ has document 01's number for each case.
 pub enum Outcome {
     // With the IPV in force, 8 null.
     Passed(u8),
@@ -73,19 +74,6 @@ pub fn step(gate: Gate, list: &[u8], time: u64, msdu: u64) -> Stepped
         let base = gate.base;
         let here = in_force(list, base, time);
         pass(gate, here, msdu)
-    }
-}
-
-// The drop number of document 01, 0 for a frame that passes.
-// Ruled out: 3 for a closed gate; 5 for a flag that stands.
-pub fn number(outcome: Outcome) -> u8
-    ensures { λ r. ⌜ r ≡ gateNumberOf outcome ⌝ }
-{
-    match outcome {
-        Outcome::Passed(_) => 0,
-        Outcome::Blocked => 3,
-        Outcome::Closed => 4,
-        Outcome::TooManyOctets => 5,
     }
 }
 

@@ -2,7 +2,7 @@
 use Prim.Native.Nat.{ℕ, _+_, _-_, _*_, _^_, min}
 use mathlib.Core.Bool.{Bool, true, false, not, cond, _&&_, _||_}
 use lib.Dec.{leb}
-use Rattle.bucket.specs.Meaning.{grains, grown}
+use Rattle.bucket.specs.Meaning.{grains, grown, fullOf}
 use Rattle.bucket.specs.declared.Rate.{Rate}
 use Rattle.bucket.specs.declared.Octets.{Octets}
 use Rattle.meter.specs.declared.Meter.{Meter}
@@ -22,8 +22,8 @@ freshMeterOf cir cbs eir ebs coupling aware dropping block = record {
   «drop_on_yellow» = dropping;
   «red_block» = block;
   «red_flag» = false;
-  committed = grains (min (cbs .0) 1_000_000);
-  excess = grains (min (ebs .0) 1_000_000);
+  committed = fullOf cbs;
+  excess = fullOf ebs;
   last = 0;
 }
 

@@ -2,8 +2,7 @@
 use bucket::Octets;
 use bucket::Rate;
 ghost use mathlib.Core.Path.{_≡_};
-ghost use Prim.Native.Nat.{_-_, _*_, min};
-ghost use Rattle.bucket.specs.Meaning.{grains};
+ghost use Prim.Native.Nat.{_-_, min};
 ghost use Rattle.meter.specs.Meaning.{freshMeterOf, colourOf, filledOf, paintedOf, meterInRange, spilt, yellowOutcome};
 ghost use Rattle.meter.specs.Range.{Ready};
 
@@ -25,7 +24,7 @@ pub struct Meter {
     pub last: u64,
 }
 
-// What becomes of a frame. `numberOf` in specs/ has document 01's number for each case.
+// What becomes of a frame. `meterNumberOf` in specs/ has document 01's number for each case.
 pub enum Outcome {
     Green,
     // Passes, drop eligible from here on.
@@ -69,8 +68,8 @@ impl Meter {
             drop_on_yellow,
             red_block,
             red_flag: false,
-            committed: full(cbs.0 as u64),
-            excess: full(ebs.0 as u64),
+            committed: bucket::full(cbs),
+            excess: bucket::full(ebs),
             last: 0,
         }
     }
@@ -194,15 +193,5 @@ fn yellow(dropped: bool) -> Outcome
         Outcome::YellowDropped
     } else {
         Outcome::Yellow
-    }
-}
-
-fn full(burst: u64) -> u64
-    ensures { λ r. ⌜ r ≡ grains (min burst 1_000_000) ⌝ }
-{
-    if burst < 1_000_000 {
-        burst * bucket::GRAINS
-    } else {
-        1_000_000 * bucket::GRAINS
     }
 }

@@ -144,7 +144,7 @@ fn schedule(bank: &mut Words, a: ArrivalRecord, row: Filter, priority: u8, mark:
     let s = bank::scheduler_at(bank, i);
     let g = bank::group_at(bank, j);
     let length = charged(bank, a);
-    let r = scheduler::step(s, g.last, g.residence, a.time, length);
+    let r = scheduler::offered(s, g.last, g.residence, a.time, length);
     let after = r.scheduler;
     let o = r.outcome;
     match o {

@@ -18,6 +18,7 @@ use Rattle.record.specs.declared.PortRecord.{PortRecord}
 use Rattle.record.specs.declared.SchedulerRecord.{SchedulerRecord}
 use Rattle.record.specs.declared.StartRecord.{StartRecord}
 use Rattle.record.specs.declared.Refusal.the-variants.{SetUpAlready}
+use Rattle.record.specs.Meaning.{bodyIn}
 use Rattle.record.specs.Sorts.{Setup, never-setup}
 use Rattle.bank.specs.Meaning.{Rows, portRow, gateRow, groupRow, schedulerRow, entries, componentRow}
 use Rattle.bank.specs.Rows.{row-other}
@@ -31,9 +32,9 @@ use Rattle.promises.specs.Meaning.{Call}
 
 -- ---- a setup record
 
-pub entry-row : (s : Rows) (lists input : List ℕ) (r : GateEntryRecord) (q : ℕ) → q ≢ gateRow (r .gate) → addEntryOf s lists input r .bank q ≡ s q
+pub entry-row : (s : Rows) (lists body : List ℕ) (r : GateEntryRecord) (q : ℕ) → q ≢ gateRow (r .gate) → addEntryOf s lists body r .bank q ≡ s q
 unfolding addEntryOf
-entry-row s lists input r q h = by-room (ltb (entries s (r .gate)) entryCount) _ _ (row-other _ _ _ q h) refl
+entry-row s lists body r q h = by-room (ltb (entries s (r .gate)) entryCount) _ _ (row-other _ _ _ q h) refl
   where
     by-room : (t : Bool) (x y : Listed) → x .bank q ≡ s q → y .bank q ≡ s q → cond t x y .bank q ≡ s q
     by-room true x y p p′ = p
@@ -45,7 +46,7 @@ pub record Setups (b : Bridge) (c : Call) (P : Bridge → Type 0) : Type 0 where
   pub ports : (r : PortRecord) → P (bridge (b .table) (setPortOf (b .bank) r .bank) (b .lists))
   pub filters : (r : FilterRecord) → P (bridge (set (b .table) (r .id) (filterOf r)) (b .bank) (b .lists))
   pub gates : (r : GateRecord) → P (bridge (b .table) (setGateOf (b .bank) r .bank) (b .lists))
-  pub entries : (r : GateEntryRecord) → P (bridge (b .table) (addEntryOf (b .bank) (b .lists) c r .bank) (addEntryOf (b .bank) (b .lists) c r .lists))
+  pub entries : (r : GateEntryRecord) (used : ℕ) → P (bridge (b .table) (addEntryOf (b .bank) (b .lists) (bodyIn c used) r .bank) (addEntryOf (b .bank) (b .lists) (bodyIn c used) r .lists))
   pub meters : (r : MeterRecord) → P (bridge (b .table) (setMeterOf (b .bank) r .bank) (b .lists))
   pub groups : (r : GroupRecord) → P (bridge (b .table) (setGroupOf (b .bank) r .bank) (b .lists))
   pub schedulers : (r : SchedulerRecord) → P (bridge (b .table) (setSchedulerOf (b .bank) r .bank) (b .lists))
@@ -61,7 +62,7 @@ module _ (b : Bridge) (c : Call) (P : Bridge → Type 0) (all : Setups b c P) wh
   setup-holds (kind.Port r) used h = all .ports r
   setup-holds (kind.Filter r) used h = placed (isFilterOf (rowOf (b .table) (r .id))) _ (all .filters r)
   setup-holds (kind.Gate r) used h = all .gates r
-  setup-holds (kind.GateEntry r) used h = all .entries r
+  setup-holds (kind.GateEntry r) used h = all .entries r used
   setup-holds (kind.Meter r) used h = all .meters r
   setup-holds (kind.Group r) used h = all .groups r
   setup-holds (kind.Scheduler r) used h = all .schedulers r
@@ -86,7 +87,7 @@ module _ (b : Bridge) (c : Call) (q : ℕ) (aside : Aside q) (no-gate : (j : ℕ
         ports = λ r. port-other (b .bank) q r (aside .component) (aside .ports (r .port));
         filters = λ r. refl;
         gates = λ r. gate-other (b .bank) q r (no-gate (r .id));
-        entries = λ r. entry-row (b .bank) (b .lists) c r q (no-gate (r .gate));
+        entries = λ r used. entry-row (b .bank) (b .lists) _ r q (no-gate (r .gate));
         meters = meters;
         groups = λ r. group-other (b .bank) q r (aside .groups (r .id));
         schedulers = λ r. scheduler-other (b .bank) q r (aside .schedulers (r .id));

@@ -9,7 +9,7 @@ use native.Mathlib.Nat.{add-zero}
 use native.Mathlib.Decide.{ℕ-discrete}
 use borrow.Author.Tests.{le-leb, lt-leb}
 use lib.ListN.{length, getD, take, drop, List·getD-eq-default}
-use Rattle.record.specs.Meaning.{View, partOf, bodyOf, Kind, kinds, kindOf, numberAt, recordLength, lengthIn, inTurnIn, wholeIn, readAs, readOf}
+use Rattle.record.specs.Meaning.{View, bodyIn, bodyOf, Kind, kinds, kindOf, numberAt, recordLength, lengthIn, inTurnIn, wholeIn, readAs, readOf}
 use Rattle.record.specs.declared.Refusal.the-variants.{CutShort, UnknownKind, OutOfTurn}
 use Rattle.record.specs.declared.Reading.{Reading}
 use Rattle.record.specs.declared.Reading.the-variants.{Refused}
@@ -131,18 +131,15 @@ view-is : (a b : View) → a .block ≡ b .block → a .place ≡ b .place → a
 view-is a b p q r = λ i. record { block = p i; place = q i; octets = r i }
 
 module _ (v : View) (used : ℕ) where
-  nothing-shown : (r : View) → r .block ≡ v .block → r .place ≡ v .place → r .octets ≡ [] → r ≡ partOf v 0 0
-  nothing-shown r p q o = view-is r (partOf v 0 0) p (q ∙ sym (add-zero (v .place))) o
-
   module _ (r : View) (p : r .block ≡ v .block) where
     pub body-none : used ≡ 0 → r .place ≡ v .place → r .octets ≡ [] → r ≡ bodyOf v used
-    unfolding bodyOf
-    body-none e q o = rw e (nothing-shown r p q o)
+    unfolding bodyOf bodyIn
+    body-none e q o = rw e (view-is r (record { block = v .block; place = v .place + 0; octets = [] }) p (q ∙ sym (add-zero (v .place))) o)
 
     pub body-past : length (v .octets) < used → r .place ≡ v .place → r .octets ≡ [] → r ≡ bodyOf v used
-    unfolding bodyOf
-    body-past h q o = rw (le-leb 1 used (omega arith), lt-leb used (length (v .octets)) h) (nothing-shown r p q o)
+    unfolding bodyOf bodyIn
+    body-past h q o = rw (le-leb 1 used (omega arith), lt-leb used (length (v .octets)) h) (view-is r (record { block = v .block; place = v .place + 0; octets = [] }) p (q ∙ sym (add-zero (v .place))) o)
 
     pub body-part : (used ≡ 0 → ⊥) → used ≤ length (v .octets) → r .place ≡ v .place + 1 → r .octets ≡ take (used - 1) (drop 1 (v .octets)) → r ≡ bodyOf v used
-    unfolding bodyOf
-    body-part n h q o = rw (le-leb 1 used (omega arith), le-leb used (length (v .octets)) h) (view-is r (partOf v 1 (used - 1)) p q o)
+    unfolding bodyOf bodyIn
+    body-part n h q o = rw (le-leb 1 used (omega arith), le-leb used (length (v .octets)) h) (view-is r (record { block = v .block; place = v .place + 1; octets = take (used - 1) (drop 1 (v .octets)) }) p q o)

@@ -3,3 +3,4 @@ pub mod Sorts
 pub mod Cases
 pub mod Laws
 pub mod Ranges
+pub mod Body

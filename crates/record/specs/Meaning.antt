@@ -314,14 +314,17 @@ pub record View : Type 0 where
 abbrev pub viewOf : RefT (List ℕ) → View
 viewOf r = record { block = r .ptr .0; place = r .ptr .1; octets = now r }
 
--- the n octets from octet k on
-abbrev pub partOf : View → ℕ → ℕ → View
-partOf v k n = record { block = v .block; place = v .place + k; octets = take n (drop k (v .octets)) }
+-- whether a record that uses so many octets stands at the front. A refusal uses 0 octets
+abbrev pub standsIn : List ℕ → ℕ → Bool
+standsIn s used = leb 1 used && leb used (length s)
 
--- the body of the record at the front that uses so many octets: all but its kind. A refusal uses 0 octets, and nothing is shown; nor is it
--- where so many are not there
+-- the octets of its body: all but its kind; none where no record stands
+unfoldable pub bodyIn : List ℕ → ℕ → List ℕ
+bodyIn s used = cond (standsIn s used) (take (used - 1) (drop 1 s)) []
+
+-- the body as the very part of what is lent: from behind the kind on; where no record stands, the empty part at the front
 unfoldable pub bodyOf : View → ℕ → View
-bodyOf v used = cond (leb 1 used && leb used (length (v .octets))) (partOf v 1 (used - 1)) (partOf v 0 0)
+bodyOf v used = record { block = v .block; place = v .place + cond (standsIn (v .octets) used) 1 0; octets = bodyIn (v .octets) used }
 
 -- ---- records told apart by those alone that ask for one sort of them
 

@@ -13,21 +13,21 @@ use Rattle.scheduler.specs.Meaning.{schedulerStepOf, decided, eligibleOf
 use Rattle.scheduler.specs.Range.{testOf, Ranged}
 
 module _ (s : Scheduler) (group residence arrival : ℕ) (length : Octets) where
-  pub step-refused : testOf s group residence arrival length ≡ false → schedulerStepOf s group residence arrival length ≡ record { scheduler = s; group = group; outcome = Refused }
+  pub step-refused : testOf s group residence arrival length ≡ false → schedulerStepOf s group residence arrival length ≡ record { scheduler = s; outcome = Refused }
   unfolding schedulerStepOf
   step-refused e = rw e
 
   module _ (e : testOf s group residence arrival length ≡ true) where
-    step-decided : schedulerStepOf s group residence arrival length ≡ decided s group (length .0) (eligibleOf s group arrival (length .0)) (arrival + residence)
+    step-decided : schedulerStepOf s group residence arrival length ≡ decided s (length .0) (eligibleOf s group arrival (length .0)) (arrival + residence)
     unfolding schedulerStepOf
     step-decided = rw e
 
     module _ (at : ℕ) (is : at ≡ eligibleOf s group arrival (length .0)) where
-      pub step-dropped : arrival + residence < at → schedulerStepOf s group residence arrival length ≡ record { scheduler = s; group = group; outcome = Dropped }
+      pub step-dropped : arrival + residence < at → schedulerStepOf s group residence arrival length ≡ record { scheduler = s; outcome = Dropped }
       step-dropped h = step-decided ∙ rw (← is, lt-leb _ _ h)
 
       pub step-admitted : (left : ℕ) → at ≤ arrival + residence → left ≡ grown (s .level) (s .rate .0) (grains (s .burst .0)) (at - s .last)
-          → schedulerStepOf s group residence arrival length ≡ record { scheduler = record { rate = s .rate; burst = s .burst; level = left - grains (length .0); last = at }; group = at; outcome = Admitted at }
+          → schedulerStepOf s group residence arrival length ≡ record { scheduler = record { rate = s .rate; burst = s .burst; level = left - grains (length .0); last = at }; outcome = Admitted at }
       step-admitted left h e′ = step-decided ∙ rw (← is, le-leb _ _ h, ← e′)
 
   -- at the eligibility time, and later, the bucket holds the frame

@@ -68,8 +68,8 @@ ahead-range s s′ group group′ residence arrival length ahead groups small le
 pub larger-burst-step : (s s′ : Scheduler) (group group′ residence arrival : ℕ) (length : Octets) → Ahead s s′ → group′ ≤ group → s′ .burst .0 ≤ 1_000_000 → s′ .level ≤ grains (s′ .burst .0)
     → testOf s group residence arrival length ≡ true
     → (let at = eligibleOf s group arrival (length .0) in let at′ = eligibleOf s′ group′ arrival (length .0) in at ≤ arrival + residence
-    → (schedulerStepOf s group residence arrival length ≡ record { scheduler = spent s (length .0) at; group = at; outcome = Admitted at })
-    × (schedulerStepOf s′ group′ residence arrival length ≡ record { scheduler = spent s′ (length .0) at′; group = at′; outcome = Admitted at′ })
+    → (schedulerStepOf s group residence arrival length ≡ record { scheduler = spent s (length .0) at; outcome = Admitted at })
+    × (schedulerStepOf s′ group′ residence arrival length ≡ record { scheduler = spent s′ (length .0) at′; outcome = Admitted at′ })
     × (at′ ≤ at)
     × Ahead (spent s (length .0) at) (spent s′ (length .0) at′))
 larger-burst-step s s′ group group′ residence arrival length ahead groups small level e h =

@@ -3,36 +3,37 @@ use Prim.Native.Nat.{ℕ, _+_, _≤_, _^_}
 use mathlib.Core.Bool.{Bool, true}
 use mathlib.Core.Path.{_≡_}
 use borrow.Author.Tests.{leb-true, le-leb}
+use Rattle.bucket.specs.declared.Rate.{Rate}
 use Rattle.bucket.specs.declared.Octets.{Octets}
 use Rattle.scheduler.specs.declared.Scheduler.{Scheduler}
 use Rattle.logic.specs.Laws.{conjuncts}
 use Rattle.bucket.specs.Meaning.{grains}
 use Rattle.scheduler.specs.Meaning.{schedulerInRange}
 
-pub record InRange (rate burst level last group residence arrival length : ℕ) : Type 0 where
-  pub burst-low : 1 ≤ burst
-  pub burst-high : burst ≤ 1_000_000
-  pub level-high : level ≤ grains burst
-  pub length-high : length ≤ burst
-  pub rate-low : 1 ≤ rate
-  pub rate-high : rate ≤ 10_000_000_000
+pub record InRange (rate : Rate) (burst : Octets) (level last group residence arrival : ℕ) (length : Octets) : Type 0 where
+  pub burst-low : 1 ≤ burst .0
+  pub burst-high : burst .0 ≤ 1_000_000
+  pub level-high : level ≤ grains (burst .0)
+  pub length-high : length .0 ≤ burst .0
+  pub rate-low : 1 ≤ rate .0
+  pub rate-high : rate .0 ≤ 10_000_000_000
   pub last-high : last ≤ 2 ^ 62 + 1_000_000_000
   pub group-high : group ≤ 2 ^ 62 + 1_000_000_000
   pub arrival-high : arrival ≤ 2 ^ 62
   pub residence-low : 1 ≤ residence
   pub residence-high : residence ≤ 1_000_000_000
 
-pub in-range : (rate burst level last group residence arrival length : ℕ) → schedulerInRange rate burst level last group residence arrival length ≡ true
+pub in-range : (rate : Rate) (burst : Octets) (level last group residence arrival : ℕ) (length : Octets) → schedulerInRange rate burst level last group residence arrival length ≡ true
     → InRange rate burst level last group residence arrival length
 unfolding schedulerInRange
 in-range rate burst level last group residence arrival length e =
     record {
-      burst-low = leb-true 1 burst (search conjuncts depth 12);
-      burst-high = leb-true burst 1_000_000 (search conjuncts depth 12);
-      level-high = leb-true level (grains burst) (search conjuncts depth 12);
-      length-high = leb-true length burst (search conjuncts depth 12);
-      rate-low = leb-true 1 rate (search conjuncts depth 12);
-      rate-high = leb-true rate 10_000_000_000 (search conjuncts depth 12);
+      burst-low = leb-true 1 (burst .0) (search conjuncts depth 12);
+      burst-high = leb-true (burst .0) 1_000_000 (search conjuncts depth 12);
+      level-high = leb-true level (grains (burst .0)) (search conjuncts depth 12);
+      length-high = leb-true (length .0) (burst .0) (search conjuncts depth 12);
+      rate-low = leb-true 1 (rate .0) (search conjuncts depth 12);
+      rate-high = leb-true (rate .0) 10_000_000_000 (search conjuncts depth 12);
       last-high = leb-true last (2 ^ 62 + 1_000_000_000) (search conjuncts depth 12);
       group-high = leb-true group (2 ^ 62 + 1_000_000_000) (search conjuncts depth 12);
       arrival-high = leb-true arrival (2 ^ 62) (search conjuncts depth 12);
@@ -41,7 +42,7 @@ in-range rate burst level last group residence arrival length e =
     }
 
 -- and the other way round
-pub in-range-back : (rate burst level last group residence arrival length : ℕ) → InRange rate burst level last group residence arrival length
+pub in-range-back : (rate : Rate) (burst : Octets) (level last group residence arrival : ℕ) (length : Octets) → InRange rate burst level last group residence arrival length
     → schedulerInRange rate burst level last group residence arrival length ≡ true
 unfolding schedulerInRange
 in-range-back rate burst level last group residence arrival length k =
@@ -49,13 +50,13 @@ in-range-back rate burst level last group residence arrival length k =
 
 -- the same of a step's arguments
 abbrev pub testOf : Scheduler → ℕ → ℕ → ℕ → Octets → Bool
-testOf s group residence arrival length = schedulerInRange (s .rate .0) (s .burst .0) (s .level) (s .last) group residence arrival (length .0)
+testOf s group residence arrival length = schedulerInRange (s .rate) (s .burst) (s .level) (s .last) group residence arrival length
 
 abbrev pub Ranged : Scheduler → ℕ → ℕ → ℕ → Octets → Type 0
-Ranged s group residence arrival length = InRange (s .rate .0) (s .burst .0) (s .level) (s .last) group residence arrival (length .0)
+Ranged s group residence arrival length = InRange (s .rate) (s .burst) (s .level) (s .last) group residence arrival length
 
 pub ranged : (s : Scheduler) (group residence arrival : ℕ) (length : Octets) → testOf s group residence arrival length ≡ true → Ranged s group residence arrival length
-ranged s group residence arrival length e = in-range (s .rate .0) (s .burst .0) (s .level) (s .last) group residence arrival (length .0) e
+ranged s group residence arrival length e = in-range (s .rate) (s .burst) (s .level) (s .last) group residence arrival length e
 
 pub ranged-back : (s : Scheduler) (group residence arrival : ℕ) (length : Octets) → Ranged s group residence arrival length → testOf s group residence arrival length ≡ true
-ranged-back s group residence arrival length k = in-range-back (s .rate .0) (s .burst .0) (s .level) (s .last) group residence arrival (length .0) k
+ranged-back s group residence arrival length k = in-range-back (s .rate) (s .burst) (s .level) (s .last) group residence arrival length k

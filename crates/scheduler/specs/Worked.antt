@@ -3,7 +3,6 @@ use Prim.Native.Nat.{ℕ}
 use mathlib.Core.List.{List, [], _∷_}
 use mathlib.Core.Path.{_≡_, refl}
 use Rattle.scheduler.specs.declared.Scheduler.{Scheduler}
-use Rattle.scheduler.specs.declared.Stepped.{Stepped}
 use Rattle.scheduler.specs.declared.Outcome.{Outcome}
 use Rattle.scheduler.specs.declared.Outcome.the-variants.{Admitted, Dropped, Refused}
 use Rattle.bucket.specs.Meaning.{grains}
@@ -13,19 +12,30 @@ use Rattle.scheduler.specs.Meaning.{schedulerStepOf, schedulerInRange}
 abbrev pub full : ℕ → ℕ → Scheduler
 full rate burst = record { rate = record { 0 = rate }; burst = record { 0 = burst }; level = grains burst; last = 0 }
 
+-- a group's last time, which was `g`, after an outcome: an admitted frame's eligibility time becomes it
+abbrev pub groupAfter : ℕ → Outcome → ℕ
+groupAfter g (Admitted at) = at
+groupAfter g Dropped = g
+groupAfter g Refused = g
+
 -- the outcomes of frames of `length` octets that arrive at the times of a list
 unfoldable pub outcomesAfter : Scheduler → ℕ → ℕ → ℕ → List ℕ → List Outcome
 outcomesAfter s g residence length [] = []
 outcomesAfter s g residence length (t ∷ ts) =
     let r = schedulerStepOf s g residence t (record { 0 = length }) in
-    r .outcome ∷ outcomesAfter (r .scheduler) (r .group) residence length ts
+    r .outcome ∷ outcomesAfter (r .scheduler) (groupAfter g (r .outcome)) residence length ts
 
--- the scheduler and its group's last time after the frames of a list
-unfoldable pub lastOf : Scheduler → ℕ → ℕ → ℕ → List ℕ → Stepped
-lastOf s g residence length [] = record { scheduler = s; group = g; outcome = Dropped }
+-- a scheduler, and its group's last time beside it
+pub record Alone : Type 0 where
+  pub scheduler : Scheduler
+  pub group : ℕ
+
+-- both after the frames of a list
+unfoldable pub lastOf : Scheduler → ℕ → ℕ → ℕ → List ℕ → Alone
+lastOf s g residence length [] = record { scheduler = s; group = g }
 lastOf s g residence length (t ∷ ts) =
     let r = schedulerStepOf s g residence t (record { 0 = length }) in
-    lastOf (r .scheduler) (r .group) residence length ts
+    lastOf (r .scheduler) (groupAfter g (r .outcome)) residence length ts
 
 -- document 01's scheduler S: a rate of 10^9 and a burst of 1000
 abbrev pub S : Scheduler
@@ -43,9 +53,17 @@ CaseD = outcomesAfter (full 3_000_000_000 1000) 0 10_000 500 (0 ∷ 0 ∷ 0 ∷ 
 abbrev pub CaseE : Type 0
 CaseE = outcomesAfter S (lastOf S 0 10_000 500 (0 ∷ 0 ∷ 0 ∷ []) .group) 10_000 500 (0 ∷ []) ≡ Admitted 4000 ∷ []
 
-pub schedulers-worked : CaseABC × (CaseD × CaseE)
+pub case-ABC : CaseABC
+unfolding outcomesAfter schedulerStepOf schedulerInRange
+case-ABC = refl
+
+pub case-D : CaseD
+unfolding outcomesAfter schedulerStepOf schedulerInRange
+case-D = refl
+
+pub case-E : CaseE
 unfolding outcomesAfter lastOf schedulerStepOf schedulerInRange
-schedulers-worked = (refl, (refl, refl))
+case-E = refl
 
 -- a rate of 0 is out of range
 rate-zero : outcomesAfter (full 0 1000) 0 10_000 500 (0 ∷ []) ≡ Refused ∷ []

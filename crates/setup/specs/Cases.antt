@@ -48,12 +48,12 @@ none-of test (suc n) e i h =
     ⊎-elim (λ same. ap test same ∙ neither-right (someOf test n) (test n) e) (λ less. none-of test n (neither-left (someOf test n) (test n) e) i less)
     (eq-or-lt-of-le (le-of-suc-le-suc h))
 
-module _ (s : Rows) (lists input : List ℕ) (r : GateEntryRecord) (n : ℕ) (e : n ≡ entries s (r .gate)) where
-  pub entry-taken : n < entryCount → addEntryOf s lists input r ≡ listed (withEntries s (r .gate) (n + 1)) (entryKept lists (entryPlace (r .gate) n) input) Taken
+module _ (s : Rows) (lists body : List ℕ) (r : GateEntryRecord) (n : ℕ) (e : n ≡ entries s (r .gate)) where
+  pub entry-taken : n < entryCount → addEntryOf s lists body r ≡ listed (withEntries s (r .gate) (n + 1)) (entryKept lists (entryPlace (r .gate) n) body) Taken
   unfolding addEntryOf
   entry-taken h = rw (← e, lt-ltb _ _ h)
 
-  pub entry-ninth : entryCount ≤ n → addEntryOf s lists input r ≡ listed s lists (Refused NinthEntry)
+  pub entry-ninth : entryCount ≤ n → addEntryOf s lists body r ≡ listed s lists (Refused NinthEntry)
   unfolding addEntryOf
   entry-ninth h = rw (← e, le-ltb _ _ h)
 

@@ -1,13 +1,15 @@
 -- What holds of every record taken here: a refusal leaves all as it was, a record that is taken changes only the rows it names, and a
 -- clear moves just its flag.
-use Prim.Native.Nat.{ℕ, _*_, _%_, _<_}
+use Prim.Native.Nat.{ℕ, _+_, _*_, _%_, _<_}
 use mathlib.Core.Bool.{Bool, true, false, not, cond}
 use mathlib.Core.List.{List}
 use mathlib.Core.Logic.{_≢_}
-use mathlib.Core.Path.{_≡_, refl, ap, _∙_}
+use mathlib.Core.Path.{_≡_, refl, sym, ap, _∙_}
+use native.Mathlib.Nat.{zero-add}
 use native.Mathlib.Omega.{arith}
 use lib.Dec.{ltb}
-use lib.ListN.{length}
+use lib.ListN.{length, getD}
+use lib.Seq.{ext-getD}
 use Rattle.sizes.specs.Meaning.{gateCount, entryCount, entryOctets, listOctets, listsOctets}
 use Rattle.record.specs.declared.PortRecord.{PortRecord}
 use Rattle.record.specs.declared.GateRecord.{GateRecord}
@@ -21,7 +23,7 @@ use Rattle.record.specs.declared.Refusal.{Refusal}
 use Rattle.record.specs.declared.Refusal.the-variants.{NinthEntry}
 use Rattle.bank.specs.Meaning.{Rows, load, componentRow, portRow, countersRow, gateRow, gateStateRow, meterRow, meterStateRow, groupRow, schedulerRow, counters, gate, gateIsSet, entries, meter, meterIsSet}
 use Rattle.bank.specs.Rows.{row-other}
-use Rattle.bank.specs.Store.{load-same, load-apart}
+use Rattle.bank.specs.Store.{load-same, load-apart, getD-load}
 use Rattle.bank.specs.Laws.{oversize-same, gate-state-same, meter-state-same}
 use Rattle.filter.specs.declared.Filter.{Filter}
 use Rattle.filter.specs.declared.Found.{Found}
@@ -90,10 +92,10 @@ module _ (s : Rows) where
   clear-keeps r row = clear-by (Keeps s) s r row (λ _. oversize-keeps (r .id) row) (λ _. invalid-receive-keeps (r .id)) (λ _. octets-keeps (r .id)) (λ _. red-keeps (r .id)) (λ _ _. refl)
 
 -- the octets of the lists stay, too
-pub entry-keeps : (s : Rows) (lists input : List ℕ) (r : GateEntryRecord) (why : Refusal) → addEntryOf s lists input r .verdict ≡ Refused why
-    → addEntryOf s lists input r ≡ listed s lists (Refused why)
+pub entry-keeps : (s : Rows) (lists body : List ℕ) (r : GateEntryRecord) (why : Refusal) → addEntryOf s lists body r .verdict ≡ Refused why
+    → addEntryOf s lists body r ≡ listed s lists (Refused why)
 unfolding addEntryOf
-entry-keeps s lists input r why = by-room (ltb (entries s (r .gate)) entryCount) _ _
+entry-keeps s lists body r why = by-room (ltb (entries s (r .gate)) entryCount) _ _
   where
     by-room : (b : Bool) (s′ : Rows) (lists′ : List ℕ) → cond b (listed s′ lists′ Taken) (listed s lists (Refused NinthEntry)) .verdict ≡ Refused why
         → cond b (listed s′ lists′ Taken) (listed s lists (Refused NinthEntry)) ≡ listed s lists (Refused why)
@@ -172,21 +174,25 @@ module _ (s : Rows) (i : ℕ) where
 
 -- ---- an entry that is taken: its body stands behind the entries before it, and the list of every other gate is as it was
 
-module _ (s : Rows) (lists input : List ℕ) (r : GateEntryRecord) (room : entries s (r .gate) < entryCount) where
-  pub entry-body : length lists ≡ listsOctets → load (addEntryOf s lists input r .lists) (entryPlace (r .gate) (entries s (r .gate))) 0 entryOctets ≡ entryBodyOf input
+-- of a body that has an entry's octets, all are kept
+pub body-whole : (body : List ℕ) → length body ≡ entryOctets → entryBodyOf body ≡ body
+body-whole body e = ext-getD 0 (entryBodyOf body) body (sym e) (λ i h. getD-load body 0 0 entryOctets i h ∙ ap (λ (k : ℕ). getD body k 0) (zero-add (0 + i) ∙ zero-add i))
+
+module _ (s : Rows) (lists body : List ℕ) (r : GateEntryRecord) (room : entries s (r .gate) < entryCount) where
+  pub entry-body : length lists ≡ listsOctets → load (addEntryOf s lists body r .lists) (entryPlace (r .gate) (entries s (r .gate))) 0 entryOctets ≡ entryBodyOf body
   entry-body whole =
-      ap (λ (t : Listed). load (t .lists) (entryPlace (r .gate) (entries s (r .gate))) 0 entryOctets) (entry-taken s lists input r _ refl room)
-      ∙ load-same lists (entryPlace (r .gate) (entries s (r .gate))) 0 (entryBodyOf input) (omega arith)
+      ap (λ (t : Listed). load (t .lists) (entryPlace (r .gate) (entries s (r .gate))) 0 entryOctets) (entry-taken s lists body r _ refl room)
+      ∙ load-same lists (entryPlace (r .gate) (entries s (r .gate))) 0 (entryBodyOf body) (omega arith)
 
-  pub entry-other : (q : ℕ) → q ≢ gateRow (r .gate) → addEntryOf s lists input r .bank q ≡ s q
-  entry-other q h = ap (λ (t : Listed). t .bank q) (entry-taken s lists input r _ refl room) ∙ row-other _ _ _ q h
+  pub entry-other : (q : ℕ) → q ≢ gateRow (r .gate) → addEntryOf s lists body r .bank q ≡ s q
+  entry-other q h = ap (λ (t : Listed). t .bank q) (entry-taken s lists body r _ refl room) ∙ row-other _ _ _ q h
 
-  pub entry-list-other : (i : ℕ) → i % gateCount ≢ r .gate % gateCount → load (addEntryOf s lists input r .lists) (i % gateCount * listOctets) 0 listOctets ≡ load lists (i % gateCount * listOctets) 0 listOctets
+  pub entry-list-other : (i : ℕ) → i % gateCount ≢ r .gate % gateCount → load (addEntryOf s lists body r .lists) (i % gateCount * listOctets) 0 listOctets ≡ load lists (i % gateCount * listOctets) 0 listOctets
   entry-list-other i h =
-      ap (λ (t : Listed). load (t .lists) (i % gateCount * listOctets) 0 listOctets) (entry-taken s lists input r _ refl room)
-      ∙ load-apart lists (entryPlace (r .gate) (entries s (r .gate))) (entryBodyOf input) (i % gateCount * listOctets) listOctets (omega arith)
+      ap (λ (t : Listed). load (t .lists) (i % gateCount * listOctets) 0 listOctets) (entry-taken s lists body r _ refl room)
+      ∙ load-apart lists (entryPlace (r .gate) (entries s (r .gate))) (entryBodyOf body) (i % gateCount * listOctets) listOctets (omega arith)
 
-  pub entry-before : load (addEntryOf s lists input r .lists) (r .gate % gateCount * listOctets) 0 (entries s (r .gate) * entryOctets) ≡ load lists (r .gate % gateCount * listOctets) 0 (entries s (r .gate) * entryOctets)
+  pub entry-before : load (addEntryOf s lists body r .lists) (r .gate % gateCount * listOctets) 0 (entries s (r .gate) * entryOctets) ≡ load lists (r .gate % gateCount * listOctets) 0 (entries s (r .gate) * entryOctets)
   entry-before =
-      ap (λ (t : Listed). load (t .lists) (r .gate % gateCount * listOctets) 0 (entries s (r .gate) * entryOctets)) (entry-taken s lists input r _ refl room)
-      ∙ load-apart lists (entryPlace (r .gate) (entries s (r .gate))) (entryBodyOf input) (r .gate % gateCount * listOctets) (entries s (r .gate) * entryOctets) (omega arith)
+      ap (λ (t : Listed). load (t .lists) (r .gate % gateCount * listOctets) 0 (entries s (r .gate) * entryOctets)) (entry-taken s lists body r _ refl room)
+      ∙ load-apart lists (entryPlace (r .gate) (entries s (r .gate))) (entryBodyOf body) (r .gate % gateCount * listOctets) (entries s (r .gate) * entryOctets) (omega arith)

@@ -1,6 +1,6 @@
 -- What taking a record that is no filter and no arrival does to the bank of words (01, Records; 01, Refusal numbers 5 to 8 and 10).
 -- `s` is the bank's rows, `r` the record, whose fields are in range. A refusal leaves the very same rows.
-use Prim.Native.Nat.{ℕ, zero, suc, _+_, _*_, _%_, min, max}
+use Prim.Native.Nat.{ℕ, zero, suc, _+_, _*_, _%_, max}
 use mathlib.Core.Bool.{Bool, true, false, not, _&&_, _||_, cond}
 use mathlib.Core.List.{List, [], _∷_}
 use lib.Dec.{eqb, ltb}
@@ -8,7 +8,7 @@ use lib.ListN.{getD}
 use Rattle.sizes.specs.Meaning.{gateCount, entryCount, schedulerCount, entryOctets, listOctets}
 use Rattle.bucket.specs.declared.Rate.{Rate}
 use Rattle.bucket.specs.declared.Octets.{Octets}
-use Rattle.bucket.specs.Meaning.{grains}
+use Rattle.bucket.specs.Meaning.{fullOf}
 use Rattle.meter.specs.declared.Meter.{Meter}
 use Rattle.meter.specs.Meaning.{freshMeterOf, meterHolding}
 use Rattle.scheduler.specs.declared.Scheduler.{Scheduler}
@@ -64,26 +64,26 @@ pub record Listed : Type 0 where
 abbrev pub listed : Rows → List ℕ → Verdict → Listed
 listed s lists v = record { bank = s; lists = lists; verdict = v }
 
--- octet k of the input, 0 past its end
+-- octet k of a body, 0 past its end
 abbrev pub octetAt : List ℕ → ℕ → ℕ
-octetAt input k = getD input k 0
+octetAt body k = getD body k 0
 
--- the eleven octets of the body, which follow the kind, as they came
+-- the octets that are kept of an entry's body: its eleven, as they came
 abbrev pub entryBodyOf : List ℕ → List ℕ
-entryBodyOf input =
-    octetAt input 1 ∷ octetAt input 2 ∷ octetAt input 3 ∷ octetAt input 4 ∷ octetAt input 5 ∷ octetAt input 6 ∷ octetAt input 7 ∷ octetAt input 8 ∷ octetAt input 9 ∷ octetAt input 10 ∷ octetAt input 11 ∷ []
+entryBodyOf body =
+    octetAt body 0 ∷ octetAt body 1 ∷ octetAt body 2 ∷ octetAt body 3 ∷ octetAt body 4 ∷ octetAt body 5 ∷ octetAt body 6 ∷ octetAt body 7 ∷ octetAt body 8 ∷ octetAt body 9 ∷ octetAt body 10 ∷ []
 
 -- where entry n of a gate is kept
 abbrev pub entryPlace : ℕ → ℕ → ℕ
 entryPlace i n = i % gateCount * listOctets + n * entryOctets
 
 abbrev pub entryKept : List ℕ → ℕ → List ℕ → List ℕ
-entryKept lists at input = store lists at 0 (entryBodyOf input)
+entryKept lists at body = store lists at 0 (entryBodyOf body)
 
 unfoldable pub addEntryOf : Rows → List ℕ → List ℕ → GateEntryRecord → Listed
-addEntryOf s lists input r =
+addEntryOf s lists body r =
     let n = entries s (r .gate) in
-    cond (ltb n entryCount) (listed (withEntries s (r .gate) (n + 1)) (entryKept lists (entryPlace (r .gate) n) input) Taken) (listed s lists (Refused NinthEntry))
+    cond (ltb n entryCount) (listed (withEntries s (r .gate) (n + 1)) (entryKept lists (entryPlace (r .gate) n) body) Taken) (listed s lists (Refused NinthEntry))
 
 -- ---- kind 5, meter. Its buckets start full
 
@@ -99,10 +99,10 @@ setGroupOf s r =
     refusedIf (group s (r .id) .set) SetUpAlready s
     (told (withGroup s (r .id) (record { set = true; residence = r .residence; last = 0 })) Taken)
 
--- ---- kind 7, scheduler. Its bucket starts full; a burst above 1,000,000 octets, which no record has, counts as that for the level
+-- ---- kind 7, scheduler. Its bucket starts full
 
 abbrev pub freshSchedulerOf : Rate → Octets → Scheduler
-freshSchedulerOf rate burst = record { rate = rate; burst = burst; level = grains (min (burst .0) 1_000_000); last = 0 }
+freshSchedulerOf rate burst = record { rate = rate; burst = burst; level = fullOf burst; last = 0 }
 
 unfoldable pub setSchedulerOf : Rows → SchedulerRecord → Told
 setSchedulerOf s r =

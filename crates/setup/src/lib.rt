@@ -21,9 +21,8 @@ use record::StartRecord;
 use scheduler::Scheduler;
 use verdict::Verdict;
 ghost use mathlib.Core.Path.{_≡_};
-ghost use Prim.Native.Nat.{_+_, _≤_, min, max};
+ghost use Prim.Native.Nat.{_+_, _≤_, max};
 ghost use Rattle.sizes.specs.Meaning.{gateCount, schedulerCount, entryOctets, listsOctets};
-ghost use Rattle.bucket.specs.Meaning.{grains};
 ghost use Rattle.bank.specs.Meaning.{rowsOf};
 ghost use Rattle.filter.specs.Meaning.{isFound};
 ghost use Rattle.verdict.specs.Meaning.{told};
@@ -74,10 +73,10 @@ pub fn set_gate(bank: &mut Words, r: GateRecord) -> Verdict
     Verdict::Taken
 }
 
-// Kind 4: `r` is the record that `input` begins with, whose body is kept in the gate's list.
+// Kind 4: `body` is that of the record `r`, as `record::body` shows it. It is kept in the gate's list as it came.
 // Ruled out: a ninth entry taken; an entry kept in the list of another gate.
-pub fn add_entry(bank: &mut Words, lists: &mut Lists, input: &[u8], r: GateEntryRecord) -> Verdict
-    ensures { λ v. ⌜ listed (rowsOf (now (bank .exit))) (now (lists .exit)) v ≡ addEntryOf (rowsOf (now (bank .entry))) (now (lists .entry)) (now (input .entry)) r ⌝ }
+pub fn add_entry(bank: &mut Words, lists: &mut Lists, body: &[u8], r: GateEntryRecord) -> Verdict
+    ensures { λ v. ⌜ listed (rowsOf (now (bank .exit))) (now (lists .exit)) v ≡ addEntryOf (rowsOf (now (bank .entry))) (now (lists .entry)) (now (body .entry)) r ⌝ }
 {
     let i = r.gate as usize;
     let n = bank::entries_at(bank, i);
@@ -85,7 +84,7 @@ pub fn add_entry(bank: &mut Words, lists: &mut Lists, input: &[u8], r: GateEntry
         keep(
             lists,
             i % sizes::GATES * sizes::LIST + n * sizes::ENTRY,
-            input,
+            body,
         );
         bank::put_entries(bank, i, n + 1);
         Verdict::Taken
@@ -283,32 +282,32 @@ fn groupless(bank: &Words, i: usize) -> bool
     bank::scheduler_set(bank, i) & !g.set
 }
 
-// The body of the record that `input` begins with, kept at `at`.
-fn keep(lists: &mut Lists, at: usize, input: &[u8])
+// The octets of a body, kept at `at`.
+fn keep(lists: &mut Lists, at: usize, body: &[u8])
     requires { ⌜ at + entryOctets ≤ listsOctets ⌝ }
-    ensures { λ _. ⌜ now (lists .exit) ≡ entryKept (now (lists .entry)) at (now (input .entry)) ⌝ }
+    ensures { λ _. ⌜ now (lists .exit) ≡ entryKept (now (lists .entry)) at (now (body .entry)) ⌝ }
 {
     known(lists);
-    lists[at + 0] = octet(input, 1);
-    lists[at + 1] = octet(input, 2);
-    lists[at + 2] = octet(input, 3);
-    lists[at + 3] = octet(input, 4);
-    lists[at + 4] = octet(input, 5);
-    lists[at + 5] = octet(input, 6);
-    lists[at + 6] = octet(input, 7);
-    lists[at + 7] = octet(input, 8);
-    lists[at + 8] = octet(input, 9);
-    lists[at + 9] = octet(input, 10);
-    lists[at + 10] = octet(input, 11);
+    lists[at + 0] = octet(body, 0);
+    lists[at + 1] = octet(body, 1);
+    lists[at + 2] = octet(body, 2);
+    lists[at + 3] = octet(body, 3);
+    lists[at + 4] = octet(body, 4);
+    lists[at + 5] = octet(body, 5);
+    lists[at + 6] = octet(body, 6);
+    lists[at + 7] = octet(body, 7);
+    lists[at + 8] = octet(body, 8);
+    lists[at + 9] = octet(body, 9);
+    lists[at + 10] = octet(body, 10);
 }
 
 // The array lent as a slice: its length is known from here on.
 fn known(_octets: &[u8]) {}
 
-fn octet(input: &[u8], k: usize) -> u8
-    ensures { λ r. ⌜ r ≡ octetAt (now (input .entry)) k ⌝ }
+fn octet(body: &[u8], k: usize) -> u8
+    ensures { λ r. ⌜ r ≡ octetAt (now (body .entry)) k ⌝ }
 {
-    if k < input.len() { input[k] } else { 0 }
+    if k < body.len() { body[k] } else { 0 }
 }
 
 // A scheduler whose bucket is full.
@@ -318,18 +317,8 @@ fn fresh(rate: Rate, burst: Octets) -> Scheduler
     Scheduler {
         rate,
         burst,
-        level: full(burst.0 as u64),
+        level: bucket::full(burst),
         last: 0,
-    }
-}
-
-fn full(burst: u64) -> u64
-    ensures { λ r. ⌜ r ≡ grains (min burst 1_000_000) ⌝ }
-{
-    if burst < 1_000_000 {
-        burst * bucket::GRAINS
-    } else {
-        1_000_000 * bucket::GRAINS
     }
 }
 

@@ -1,3 +1,4 @@
 pub mod Meaning
 pub mod Plan
 pub mod Agree
+pub mod Entries

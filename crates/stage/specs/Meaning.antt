@@ -13,7 +13,7 @@ use Rattle.record.specs.declared.ArrivalRecord.{ArrivalRecord}
 use Rattle.record.specs.declared.Refusal.{Refusal}
 use Rattle.record.specs.declared.Refusal.the-variants.{TableLength, SetUpAlready}
 use Rattle.record.specs.declared.Reading.{Reading}
-use Rattle.record.specs.Meaning.{readOf}
+use Rattle.record.specs.Meaning.{bodyIn, readOf}
 use Rattle.bank.specs.Meaning.{Rows, isSet, component}
 use Rattle.filter.specs.declared.Filter.{Filter}
 use Rattle.filter.specs.declared.Asks.{Asks}
@@ -92,7 +92,7 @@ takenOf b input (kind.Filter r) used =
     cond (isFilterOf (rowOf (b .table) (r .id))) (refusedOf b SetUpAlready)
     (took (set (b .table) (r .id) (filterOf r)) (b .bank) (b .lists) (answered used Taken))
 takenOf b input (kind.Gate r) used = bankTook b used (setGateOf (b .bank) r)
-takenOf b input (kind.GateEntry r) used = listsTook b used (addEntryOf (b .bank) (b .lists) input r)
+takenOf b input (kind.GateEntry r) used = listsTook b used (addEntryOf (b .bank) (b .lists) (bodyIn input used) r)
 takenOf b input (kind.Meter r) used = bankTook b used (setMeterOf (b .bank) r)
 takenOf b input (kind.Group r) used = bankTook b used (setGroupOf (b .bank) r)
 takenOf b input (kind.Scheduler r) used = bankTook b used (setSchedulerOf (b .bank) r)

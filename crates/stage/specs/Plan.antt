@@ -10,7 +10,7 @@ use Rattle.record.specs.declared.FilterRecord.{FilterRecord}
 use Rattle.record.specs.declared.Refusal.the-variants.{SetUpAlready}
 use Rattle.record.specs.declared.Reading.{Reading}
 use Rattle.record.specs.declared.Reading.the-variants as reading
-use Rattle.record.specs.Meaning.{readOf, ofStart}
+use Rattle.record.specs.Meaning.{bodyIn, readOf, ofStart}
 use Rattle.bank.specs.Meaning.{Rows}
 use Rattle.filter.specs.declared.Filter.{Filter}
 use Rattle.filter.specs.declared.Asks.{Asks}
@@ -98,7 +98,7 @@ unfoldable pub takenBy : Rows → List ℕ → List ℕ → Record → ℕ → F
 takenBy s lists input (kind.Port r) used miss hit = bankSettled lists used (setPortOf s r)
 takenBy s lists input (kind.Filter r) used miss hit = settled s lists (placedOf r used (rowIn hit))
 takenBy s lists input (kind.Gate r) used miss hit = bankSettled lists used (setGateOf s r)
-takenBy s lists input (kind.GateEntry r) used miss hit = listsSettled used (addEntryOf s lists input r)
+takenBy s lists input (kind.GateEntry r) used miss hit = listsSettled used (addEntryOf s lists (bodyIn input used) r)
 takenBy s lists input (kind.Meter r) used miss hit = bankSettled lists used (setMeterOf s r)
 takenBy s lists input (kind.Group r) used miss hit = bankSettled lists used (setGroupOf s r)
 takenBy s lists input (kind.Scheduler r) used miss hit = bankSettled lists used (setSchedulerOf s r)

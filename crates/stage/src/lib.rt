@@ -210,7 +210,10 @@ fn handle(
         Record::Port(r) => kept(used, setup::set_port(bank, r)),
         Record::Filter(r) => place(r, used, row_in(hit)),
         Record::Gate(r) => kept(used, setup::set_gate(bank, r)),
-        Record::GateEntry(r) => kept(used, setup::add_entry(bank, lists, input, r)),
+        Record::GateEntry(r) => kept(
+            used,
+            setup::add_entry(bank, lists, record::body(input, used), r),
+        ),
         Record::Meter(r) => kept(used, setup::set_meter(bank, r)),
         Record::Group(r) => kept(used, setup::set_group(bank, r)),
         Record::Scheduler(r) => kept(used, setup::set_scheduler(bank, r)),

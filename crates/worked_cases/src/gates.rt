@@ -37,9 +37,14 @@ fn shown(gate: Gate, time: u64, msdu: u64) -> Gate {
             io::write_all(STDOUT_FILENO, b" pass ");
             io::print_decimal(STDOUT_FILENO, ipv as u64);
         }
-        _ => {
-            io::write_all(STDOUT_FILENO, b" drop ");
-            io::print_decimal(STDOUT_FILENO, gate::number(outcome) as u64);
+        Outcome::Blocked => {
+            io::write_all(STDOUT_FILENO, b" drop 3");
+        }
+        Outcome::Closed => {
+            io::write_all(STDOUT_FILENO, b" drop 4");
+        }
+        Outcome::TooManyOctets => {
+            io::write_all(STDOUT_FILENO, b" drop 5");
         }
     }
     io::write_all(STDOUT_FILENO, b"\n");

@@ -4,7 +4,12 @@ use bucket::Rate;
 use libc::STDOUT_FILENO;
 use scheduler::Outcome;
 use scheduler::Scheduler;
-use scheduler::Stepped;
+
+// A scheduler, and its group's last time.
+struct Alone {
+    scheduler: Scheduler,
+    group: u64,
+}
 
 pub fn print() {
     io::write_all(STDOUT_FILENO, b"A");
@@ -38,14 +43,22 @@ fn full(rate: u64) -> Scheduler {
 }
 
 // A frame of 500 octets, with a residence of 10,000 ns.
-fn offer(s: Scheduler, group: u64, arrival: u64) -> Stepped {
-    let r = scheduler::step(s, group, 10_000, arrival, Octets(500));
+fn offer(s: Scheduler, group: u64, arrival: u64) -> Alone {
+    let r = scheduler::offered(s, group, 10_000, arrival, Octets(500));
     let o = r.outcome;
     say(o);
-    r
+    let scheduler = r.scheduler;
+    match o {
+        Outcome::Admitted { at } => Alone {
+            scheduler,
+            group: at,
+        },
+        Outcome::Dropped => Alone { scheduler, group },
+        Outcome::Refused => Alone { scheduler, group },
+    }
 }
 
-fn next(r: Stepped, arrival: u64) -> Stepped {
+fn next(r: Alone, arrival: u64) -> Alone {
     let s = r.scheduler;
     offer(s, r.group, arrival)
 }

@@ -21,15 +21,15 @@ second false b e = cc
 mul-lesser : tie.Need-mul-lesser
 mul-lesser c =
     let a = c .before .args in
-    let slow : a .rate < 17_179_869_184 = ltb-true _ _ (first (ltb (a .rate) 17_179_869_184) (ltb (a .d) 1_073_741_824) (c .if1 .taken)) in
-    let short : a .d < 1_073_741_824 = ltb-true _ _ (second (ltb (a .rate) 17_179_869_184) (ltb (a .d) 1_073_741_824) (c .if1 .taken)) in
-    omega (arith, mul-le-mul {n₁ = a .rate} {m₁ = a .d} {n₂ = 17_179_869_183} {m₂ = 1_073_741_823} (omega arith) (omega arith))
+    let slow : a .rate .0 < 17_179_869_184 = ltb-true _ _ (first (ltb (a .rate .0) 17_179_869_184) (ltb (a .d) 1_073_741_824) (c .if1 .taken)) in
+    let short : a .d < 1_073_741_824 = ltb-true _ _ (second (ltb (a .rate .0) 17_179_869_184) (ltb (a .d) 1_073_741_824) (c .if1 .taken)) in
+    omega (arith, mul-le-mul {n₁ = a .rate .0} {m₁ = a .d} {n₂ = 17_179_869_183} {m₂ = 1_073_741_823} (omega arith) (omega arith))
 
 returns-3 : tie.Need-returns-3
-returns-3 c = let a = c .before .before .before .before .args in omega (arith, mul-comm (a .rate) (a .d))
+returns-3 c = let a = c .before .before .before .before .args in omega (arith, mul-comm (a .rate .0) (a .d))
 
 returns-4 : tie.Need-returns-4
-returns-4 c = let a = c .before .before .before .args in omega (arith, mul-le-mul {n₁ = 4_294_967_296} {m₁ = 4_294_967_296} {n₂ = a .rate} {m₂ = a .d} (search needs) (search needs))
+returns-4 c = let a = c .before .before .before .args in omega (arith, mul-le-mul {n₁ = 4_294_967_296} {m₁ = 4_294_967_296} {n₂ = a .rate .0} {m₂ = a .d} (search needs) (search needs))
 
 pub product-spec : {M : Type 1} → statement M
 product-spec =

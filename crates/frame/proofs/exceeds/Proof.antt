@@ -4,6 +4,7 @@ use mathlib.Core.Path.{_≡_, refl, sym}
 use Prim.Native.Nat.{ℕ, _+_, _-_, _≤_}
 use mathlib.Core.Bool.{Bool, true, false}
 use native.Mathlib.Omega.{arith}
+use borrow.Author.Needs.{needs}
 use borrow.Author.Tests.{ltb-true, ltb-false, lt-ltb, le-ltb}
 use lib.Dec.{ltb}
 use Rattle.frame.proofs.exceeds.Statement.{statement}
@@ -18,10 +19,10 @@ moved size overhead burst h = by-test (ltb (burst - overhead) size) refl
     by-test false e = le-ltb burst (size + overhead) (omega (arith, ltb-false (burst - overhead) size e))
 
 returns : tie.Need-returns
-returns c = sym (lt-ltb (c .before .args .burst) (c .before .args .msdu + c .before .args .overhead) (omega arith))
+returns c = let a = c .before .before .args in sym (lt-ltb (a .burst .0) (a .msdu + a .overhead) (omega arith))
 
 returns-2 : tie.Need-returns-2
-returns-2 c = sym (moved (c .before .args .msdu) (c .before .args .overhead) (c .before .args .burst) (omega arith))
+returns-2 c = let a = c .before .before .args in sym (moved (a .msdu) (a .overhead) (a .burst .0) (omega arith))
 
 pub exceeds-spec : {M : Type 1} → statement M
-exceeds-spec = tie.close (tie.spec returns returns-2)
+exceeds-spec = tie.close (tie.spec (λ c. search needs) returns returns-2)

@@ -14,6 +14,7 @@ use Rattle.record.specs.declared.PortRecord.{PortRecord}
 use Rattle.record.specs.declared.GateEntryRecord.{GateEntryRecord}
 use Rattle.record.specs.declared.StartRecord.{StartRecord}
 use Rattle.record.specs.declared.Refusal.the-variants.{SetUpAlready, Missing, BurstTooSmall}
+use Rattle.record.specs.Meaning.{bodyIn}
 use Rattle.record.specs.Sorts.{Setup, never-setup}
 use Rattle.record.specs.Ranges.{Ranged}
 use Rattle.bank.specs.Meaning.{Rows, word, isSet, componentRow, portRow, schedulerRow, component, entries, burst, schedulerIn, withClasses}
@@ -58,7 +59,7 @@ module _ (g : ℕ) (b : Bridge) (s′ : Rows) (o : Near g (b .bank) s′) where
     early-kept (kind.Filter r) used h k e = place-kept (isFilterOf (rowOf (b .table) (r .id))) _ _
     early-kept (kind.Gate r) used h k e = banked-kept used _ _ (gate-together g (b .bank) s′ o r)
     early-kept (kind.GateEntry r) used h k e =
-        let t = entry-together g (b .bank) s′ o (b .lists) input r in
+        let t = entry-together g (b .bank) s′ o (b .lists) (bodyIn input used) r in
         record { answers = ap (answered used) (t .0); tables = refl; lists = t .1; banks = t .2 }
     early-kept (kind.Meter r) used h k e = banked-kept used _ _ (meter-together g (b .bank) s′ o r)
     early-kept (kind.Group r) used h k e = banked-kept used _ _ (group-together g (b .bank) s′ o r)
@@ -81,7 +82,7 @@ port-classes : (s : Rows) (r : PortRecord) → classesKept s (setPortOf s r)
 unfolding setPortOf
 port-classes s r = refused-by (classesKept s) _ SetUpAlready s _ refl (ap (λ (u : List ℕ). word u 0) (row-other _ (portRow (r .port)) _ 0 (omega arith) ∙ row-same s 0 _))
 
-entry-classes : (s : Rows) (lists input : List ℕ) (r : GateEntryRecord) → word (addEntryOf s lists input r .bank 0) 0 ≡ word (s 0) 0
+entry-classes : (s : Rows) (lists body : List ℕ) (r : GateEntryRecord) → word (addEntryOf s lists body r .bank 0) 0 ≡ word (s 0) 0
 unfolding addEntryOf
 entry-classes s lists input r = by-room (ltb (entries s (r .gate)) entryCount) _ _ (ap (λ (u : List ℕ). word u 0) (row-other s _ _ 0 (omega arith))) refl
   where
@@ -114,7 +115,7 @@ module _ (b : Bridge) (input : List ℕ) (whole : length (b .table) ≡ filterCo
         ports = λ r. still (setPortOf (b .bank) r .bank) (port-classes (b .bank) r);
         filters = λ r. still (b .bank) refl;
         gates = λ r. still (setGateOf (b .bank) r .bank) (ap (λ (u : List ℕ). word u 0) (gate-other (b .bank) 0 r (omega arith)));
-        entries = λ r. still (addEntryOf (b .bank) (b .lists) input r .bank) (entry-classes (b .bank) (b .lists) input r);
+        entries = λ r used. still (addEntryOf (b .bank) (b .lists) (bodyIn input used) r .bank) (entry-classes (b .bank) (b .lists) (bodyIn input used) r);
         meters = λ r. still (setMeterOf (b .bank) r .bank) (ap (λ (u : List ℕ). word u 0) (meter-other (b .bank) 0 r (omega arith) (omega arith)));
         groups = λ r. still (setGroupOf (b .bank) r .bank) (ap (λ (u : List ℕ). word u 0) (group-other (b .bank) 0 r (omega arith)));
         schedulers = λ r. still (setSchedulerOf (b .bank) r .bank) (ap (λ (u : List ℕ). word u 0) (scheduler-other (b .bank) 0 r (omega arith)));

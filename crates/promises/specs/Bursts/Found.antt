@@ -46,10 +46,10 @@ module _ (z : Constants) (g : ℕ) (s s′ : Rows) (o : Over apart z g s s′) w
   schedulers-set : (i : ℕ) → schedulerIsSet s i ≡ schedulerIsSet s′ i
   schedulers-set i = o (schedulerRow i) .pair .set (omega arith)
 
-  bursts-larger : (i : ℕ) → burst s i ≤ burst s′ i
+  bursts-larger : (i : ℕ) → burst s i .0 ≤ burst s′ i .0
   bursts-larger i = by-group (ℕ-discrete (groupNamed (s (schedulerRow i))) g)
     where
-      by-group : Dec (groupNamed (s (schedulerRow i)) ≡ g) → burst s i ≤ burst s′ i
+      by-group : Dec (groupNamed (s (schedulerRow i)) ≡ g) → burst s i .0 ≤ burst s′ i .0
       by-group (yes e) = o (schedulerRow i) .pair .scheduler (omega arith) e .burst
       by-group (no n) = omega (arith, ap (λ (u : List ℕ). schedulerIn u .burst .0) (o (schedulerRow i) .pair .schedulers (omega arith) n))
 
@@ -61,8 +61,8 @@ module _ (z : Constants) (g : ℕ) (s s′ : Rows) (o : Over apart z g s s′) w
     small-both : exceedsBurst s f ≡ false → exceedsBurst s′ f ≡ false
     unfolding exceedsBurst
     small-both e =
-        subst (λ (x : Component). (not (eqb (f .scheduler) 255) && (eqb (f .«max_sdu») 0 || ltb (burst s′ (f .scheduler)) (lengthOf (f .«max_sdu») (x .overhead)))) ≡ false) (component-both apart z g s s′ o)
-        (smaller (eqb (f .scheduler) 255) (eqb (f .«max_sdu») 0) (f .«max_sdu» + component s .overhead) (burst s (f .scheduler)) (burst s′ (f .scheduler)) (bursts-larger (f .scheduler)) e)
+        subst (λ (x : Component). (not (eqb (f .scheduler) 255) && (eqb (f .«max_sdu») 0 || ltb (burst s′ (f .scheduler) .0) (lengthOf (f .«max_sdu») (x .overhead)))) ≡ false) (component-both apart z g s s′ o)
+        (smaller (eqb (f .scheduler) 255) (eqb (f .«max_sdu») 0) (f .«max_sdu» + component s .overhead) (burst s (f .scheduler) .0) (burst s′ (f .scheduler) .0) (bursts-larger (f .scheduler)) e)
 
     pub counts-both : (isFilterOf f ≡ true → exceedsBurst s f ≡ false) → countsOf s f ≡ countsOf s′ f
     unfolding countsOf
@@ -112,7 +112,7 @@ start-checks table s whole none j h = by-place (ltb j filterCount) refl
         (sym (answers-asked s (rowOf table j) exceeding ExceedsBurst refl) ∙ search-nothing s exceeding table (nothing-found _ none) j (omega arith) (ltb-true j filterCount l)) h
     by-place false l = absurd (true≢false (sym h ∙ ap isFilterOf (List·getD-eq-default table noRow (omega (arith, ltb-false j filterCount l, whole))) ∙ no-filter))
 
-pub checked-stays : (table : List Filter) (s t : Rows) → ((i : ℕ) → burst t i ≡ burst s i) → component t .overhead ≡ component s .overhead → Checked table s → Checked table t
+pub checked-stays : (table : List Filter) (s t : Rows) → ((i : ℕ) → burst t i .0 ≡ burst s i .0) → component t .overhead ≡ component s .overhead → Checked table s → Checked table t
 unfolding exceedsBurst
 checked-stays table s t b v checked j h = rw (b (rowOf table j .scheduler), v) (checked j h)
 

@@ -142,17 +142,17 @@ module _ (g : ℕ) (s s′ : Rows) (o : Near g s s′) where
       })
 
   -- an entry's octets go to the same place
-  pub entry-together : (lists input : List ℕ) (r : GateEntryRecord) → (addEntryOf s lists input r .verdict ≡ addEntryOf s′ lists input r .verdict) × (addEntryOf s lists input r .lists ≡ addEntryOf s′ lists input r .lists) × Near g (addEntryOf s lists input r .bank) (addEntryOf s′ lists input r .bank)
+  pub entry-together : (lists body : List ℕ) (r : GateEntryRecord) → (addEntryOf s lists body r .verdict ≡ addEntryOf s′ lists body r .verdict) × (addEntryOf s lists body r .lists ≡ addEntryOf s′ lists body r .lists) × Near g (addEntryOf s lists body r .bank) (addEntryOf s′ lists body r .bank)
   unfolding addEntryOf
-  entry-together lists input r =
-      subst (λ (n : ℕ). Same (addEntryOf s lists input r) (cond (ltb n entryCount) (listed (withEntries s′ (r .gate) (n + 1)) (entryKept lists (entryPlace (r .gate) n) input) Taken) (listed s′ lists (Refused NinthEntry))))
+  entry-together lists body r =
+      subst (λ (n : ℕ). Same (addEntryOf s lists body r) (cond (ltb n entryCount) (listed (withEntries s′ (r .gate) (n + 1)) (entryKept lists (entryPlace (r .gate) n) body) Taken) (listed s′ lists (Refused NinthEntry))))
       (ap (λ (u : List ℕ). min (word u 6) entryCount) (gate-row (r .gate)))
       (by-room (ltb (entries s (r .gate)) entryCount) (entries s (r .gate)))
     where
       Same : Listed → Listed → Type 0
       Same t t′ = (t .verdict ≡ t′ .verdict) × (t .lists ≡ t′ .lists) × Near g (t .bank) (t′ .bank)
 
-      by-room : (b : Bool) (n : ℕ) → Same (cond b (listed (withEntries s (r .gate) (n + 1)) (entryKept lists (entryPlace (r .gate) n) input) Taken) (listed s lists (Refused NinthEntry))) (cond b (listed (withEntries s′ (r .gate) (n + 1)) (entryKept lists (entryPlace (r .gate) n) input) Taken) (listed s′ lists (Refused NinthEntry)))
+      by-room : (b : Bool) (n : ℕ) → Same (cond b (listed (withEntries s (r .gate) (n + 1)) (entryKept lists (entryPlace (r .gate) n) body) Taken) (listed s lists (Refused NinthEntry))) (cond b (listed (withEntries s′ (r .gate) (n + 1)) (entryKept lists (entryPlace (r .gate) n) body) Taken) (listed s′ lists (Refused NinthEntry)))
       by-room true n = (refl, refl, remade (gateRow (r .gate)) (omega arith) (omega arith) (λ u. rowWith u 6 (n + 1)))
       by-room false n = (refl, refl, o)
 

@@ -152,7 +152,7 @@ module _ (b : Bridge) (c : Call) (p : ℕ) where
         ports = λ r. port-record (b .bank) r p;
         filters = λ r. refl;
         gates = λ r. ap (λ (row : List ℕ). word row 2) (gate-other (b .bank) (portRow p) r (omega arith));
-        entries = λ r. ap (λ (row : List ℕ). word row 2) (entry-row (b .bank) (b .lists) c r (portRow p) (omega arith));
+        entries = λ r used. ap (λ (row : List ℕ). word row 2) (entry-row (b .bank) (b .lists) _ r (portRow p) (omega arith));
         meters = λ r. ap (λ (row : List ℕ). word row 2) (meter-other (b .bank) (portRow p) r (omega arith) (omega arith));
         groups = λ r. ap (λ (row : List ℕ). word row 2) (group-other (b .bank) (portRow p) r (omega arith));
         schedulers = λ r. ap (λ (row : List ℕ). word row 2) (scheduler-other (b .bank) (portRow p) r (omega arith));

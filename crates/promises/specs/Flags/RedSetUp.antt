@@ -16,6 +16,7 @@ use Rattle.record.specs.declared.ArrivalRecord.{ArrivalRecord}
 use Rattle.record.specs.declared.ClearRecord.{ClearRecord}
 use Rattle.record.specs.declared.MeterRecord.{MeterRecord}
 use Rattle.record.specs.declared.Refusal.the-variants.{NotSetUp, SetUpAlready}
+use Rattle.record.specs.Meaning.{bodyIn}
 use Rattle.record.specs.Sorts.{Setup, Sort, setup, arrival, clear, sort-of}
 use Rattle.bank.specs.Meaning.{Rows, withRow, word, isSet, countersRow, gateStateRow, meterRow, meterStateRow, rowOfMeter, rowOfMeterState, gateIsSet, meter, meterIsSet, withMeter, withMeterState, metersFrom, groupsFrom, componentRow, schedulerRow, groupRow, portRow}
 use Rattle.bank.specs.Rows.{row-same, row-other}
@@ -118,7 +119,7 @@ module _ (b : Bridge) (c : Call) (k : RedSetUp (b .bank)) where
         ports = λ r. leaves (setPortOf (b .bank) r .bank) (λ q l h. port-other (b .bank) q r (omega arith) (omega arith));
         filters = λ r. k;
         gates = λ r. leaves (setGateOf (b .bank) r .bank) (λ q l h. gate-other (b .bank) q r (omega arith));
-        entries = λ r. leaves (addEntryOf (b .bank) (b .lists) c r .bank) (λ q l h. entry-row (b .bank) (b .lists) c r q (omega arith));
+        entries = λ r used. leaves (addEntryOf (b .bank) (b .lists) (bodyIn c used) r .bank) (λ q l h. entry-row (b .bank) (b .lists) (bodyIn c used) r q (omega arith));
         meters = λ r. meter-kept (b .bank) r k;
         groups = λ r. leaves (setGroupOf (b .bank) r .bank) (λ q l h. group-other (b .bank) q r (omega arith));
         schedulers = λ r. leaves (setSchedulerOf (b .bank) r .bank) (λ q l h. scheduler-other (b .bank) q r (omega arith));

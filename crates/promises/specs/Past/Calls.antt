@@ -27,7 +27,7 @@ use Rattle.record.specs.declared.ArrivalRecord.{ArrivalRecord}
 use Rattle.record.specs.declared.ClearRecord.{ClearRecord}
 use Rattle.record.specs.declared.Refusal.{Refusal}
 use Rattle.record.specs.declared.Refusal.the-variants.{SetUpAlready, Missing, BurstTooSmall}
-use Rattle.record.specs.Meaning.{readOf}
+use Rattle.record.specs.Meaning.{bodyIn, readOf}
 use Rattle.record.specs.Laws.{read-setup}
 use Rattle.record.specs.Sorts.{Setup}
 use Rattle.record.specs.Ranges.{read-ranges}
@@ -167,31 +167,31 @@ module _ (k : Known) (b : Bridge) (a : Agrees k b) where
 
         entry-lists : (room : entries s (x .gate) < entryCount) (i : ℕ) → i < gateCount
             → let es = noted k (kind.GateEntry x) .entries i in
-            entriesFrom (drop (i * listOctets) (addEntryOf s (b .lists) c x .lists)) 0 (length es) ≡ map entryOf es
+            entriesFrom (drop (i * listOctets) (addEntryOf s (b .lists) (bodyIn c used) x .lists)) 0 (length es) ≡ map entryOf es
         entry-lists room i h = by-gate (ℕ-discrete (x .gate) i)
           where
-            by-gate : Dec (x .gate ≡ i) → let es = noted k (kind.GateEntry x) .entries i in entriesFrom (drop (i * listOctets) (addEntryOf s (b .lists) c x .lists)) 0 (length es) ≡ map entryOf es
+            by-gate : Dec (x .gate ≡ i) → let es = noted k (kind.GateEntry x) .entries i in entriesFrom (drop (i * listOctets) (addEntryOf s (b .lists) (bodyIn c used) x .lists)) 0 (length es) ≡ map entryOf es
             by-gate (yes e) =
                 let count : entries s (x .gate) ≡ length (k .entries i) = ap (entries s) e ∙ entry-count k s (a .bank) i h in
                 let more : length (k .entries i ++ (x ∷ [])) ≡ suc (entries s (x .gate)) = omega (arith, count, length-append (k .entries i) (x ∷ [])) in
-                let own : entriesFrom (drop (i * listOctets) (addEntryOf s (b .lists) c x .lists)) 0 (suc (entries s (x .gate))) ≡ entriesFrom (drop (i * listOctets) (b .lists)) 0 (entries s (x .gate)) ++ (entryOf x ∷ [])
-                = subst (λ (g : ℕ). entriesFrom (drop (g * listOctets) (addEntryOf s (b .lists) c x .lists)) 0 (suc (entries s (x .gate))) ≡ entriesFrom (drop (g * listOctets) (b .lists)) 0 (entries s (x .gate)) ++ (entryOf x ∷ [])) e
-                (own-list s (b .lists) c x (a .octets) entry-ranged room (startedOf s) used said) in
+                let own : entriesFrom (drop (i * listOctets) (addEntryOf s (b .lists) (bodyIn c used) x .lists)) 0 (suc (entries s (x .gate))) ≡ entriesFrom (drop (i * listOctets) (b .lists)) 0 (entries s (x .gate)) ++ (entryOf x ∷ [])
+                = subst (λ (g : ℕ). entriesFrom (drop (g * listOctets) (addEntryOf s (b .lists) (bodyIn c used) x .lists)) 0 (suc (entries s (x .gate))) ≡ entriesFrom (drop (g * listOctets) (b .lists)) 0 (entries s (x .gate)) ++ (entryOf x ∷ [])) e
+                (own-list s (b .lists) (bodyIn c used) x (a .octets) entry-ranged room c (startedOf s) used refl said) in
                 let before : entriesFrom (drop (i * listOctets) (b .lists)) 0 (entries s (x .gate)) ≡ map entryOf (k .entries i) = ap (entriesFrom (drop (i * listOctets) (b .lists)) 0) count ∙ a .lists i h in
                 rw (eq-eqb (x .gate) i e, more) (own ∙ ap (λ (l : List Entry). l ++ (entryOf x ∷ [])) before ∙ sym (map-more entryOf (k .entries i) x))
             by-gate (no n) =
-                rw (ne-eqb (x .gate) i n) (other-list s (b .lists) c x (a .octets) entry-ranged room i (length (k .entries i)) h (a .bank (gateRow i) .gates i h refl .room) n ∙ a .lists i h)
+                rw (ne-eqb (x .gate) i n) (other-list s (b .lists) (bodyIn c used) x (a .octets) entry-ranged room i (length (k .entries i)) h (a .bank (gateRow i) .gates i h refl .room) n ∙ a .lists i h)
 
-        entry-after : After (kind.GateEntry x) (listsTook b used (addEntryOf s (b .lists) c x))
-        entry-after = rw (answered-verdict used (addEntryOf s (b .lists) c x .verdict)) (by-test (ltb (entries s (x .gate)) entryCount) (λ t. taken (ltb-true _ _ t)) (λ t. rw (entry-ninth s (b .lists) c x _ refl (ltb-false _ _ t)) a))
+        entry-after : After (kind.GateEntry x) (listsTook b used (addEntryOf s (b .lists) (bodyIn c used) x))
+        entry-after = rw (answered-verdict used (addEntryOf s (b .lists) (bodyIn c used) x .verdict)) (by-test (ltb (entries s (x .gate)) entryCount) (λ t. taken (ltb-true _ _ t)) (λ t. rw (entry-ninth s (b .lists) (bodyIn c used) x _ refl (ltb-false _ _ t)) a))
           where
-            taken : entries s (x .gate) < entryCount → Listed-after (addEntryOf s (b .lists) c x)
+            taken : entries s (x .gate) < entryCount → Listed-after (addEntryOf s (b .lists) (bodyIn c used) x)
             taken room =
-                let is = entry-taken s (b .lists) c x _ refl room in
+                let is = entry-taken s (b .lists) (bodyIn c used) x _ refl room in
                 subst Listed-after (sym is)
                 (record {
                   places = a .places;
-                  octets = ap (λ (t : Listed). length (t .lists)) (sym is) ∙ lists-whole s (b .lists) c x (a .octets) entry-ranged room;
+                  octets = ap (λ (t : Listed). length (t .lists)) (sym is) ∙ lists-whole s (b .lists) (bodyIn c used) x (a .octets) entry-ranged room;
                   bank = entry-said k s (a .bank) x entry-ranged room;
                   filters = a .filters;
                   lists = λ i h. ap (λ (t : Listed). entriesFrom (drop (i * listOctets) (t .lists)) 0 (length (noted k (kind.GateEntry x) .entries i))) (sym is) ∙ entry-lists room i h;

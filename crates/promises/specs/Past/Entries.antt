@@ -12,8 +12,9 @@ use Rattle.sizes.specs.Meaning.{gateCount, entryCount, entryOctets, listOctets,
 use Rattle.gate.specs.declared.Entry.{Entry}
 use Rattle.gate.specs.Meaning.{wordOf, entryAt, entriesFrom, entriesIn, entriesOf}
 use Rattle.record.specs.declared.GateEntryRecord.{GateEntryRecord}
-use Rattle.record.specs.Meaning.{Kind, port, filter, gate, gate-entry, meter, group, scheduler, start, arrival, clear, fieldsOf, valuesAt, recordOf, readOf}
-use Rattle.record.specs.Laws.{read-says}
+use Rattle.record.specs.Meaning.{Kind, port, filter, gate, gate-entry, meter, group, scheduler, start, arrival, clear, fieldsOf, valuesAt, recordOf, bodyIn, readOf}
+use Rattle.record.specs.Laws.{read-says, read-uses}
+use Rattle.record.specs.Body.{body-octet, read-entry-body}
 use Rattle.setup.specs.Meaning.{entryBodyOf}
 use Rattle.promises.specs.Past.Meaning.{entryOf}
 use Rattle.record.specs.declared.Record.the-variants as kind
@@ -38,7 +39,7 @@ same-entry : (r r′ : GateEntryRecord) → kind.GateEntry r ≡ kind.GateEntry 
 same-entry r r′ e = cc
 
 -- the octets that a taken entry stores are decoded to what its record says
-pub entry-kept : (c : List ℕ) (started : Bool) (r : GateEntryRecord) (used : ℕ) → readOf c started ≡ reading.Taken (kind.GateEntry r) used → entryAt (entryBodyOf c) 0 ≡ entryOf r
+pub entry-kept : (c : List ℕ) (started : Bool) (r : GateEntryRecord) (used : ℕ) → readOf c started ≡ reading.Taken (kind.GateEntry r) used → entryAt (entryBodyOf (bodyIn c used)) 0 ≡ entryOf r
 entry-kept c started r used e =
     let y = read-says c started (kind.GateEntry r) used e in
     let x : GateEntryRecord = record {
@@ -48,9 +49,12 @@ entry-kept c started r used e =
       interval = ((getD c 4 0 * 256 + getD c 5 0) * 256 + getD c 6 0) * 256 + getD c 7 0;
       «octet_maximum» = ((getD c 8 0 * 256 + getD c 9 0) * 256 + getD c 10 0) * 256 + getD c 11 0;
     } in
-    let i : wordOf (entryBodyOf c) 3 ≡ x .interval = omega arith in
-    let m : wordOf (entryBodyOf c) 7 ≡ x .«octet_maximum» = omega arith in
-    (λ j. record { opened = not (eqb (getD c 2 0) 0); ipv = getD c 3 0; interval = i j; maximum = m j })
+    let u = read-uses c started (kind.GateEntry r) used e in
+    let n : used ≡ 1 + entryOctets = read-entry-body c started r used e .0 in
+    let o : (k : ℕ) → k < entryOctets → getD (bodyIn c used) k 0 ≡ getD c (1 + k) 0 = λ k l. body-octet c used (u .0) (u .1) k (omega (arith, n, l)) in
+    let i : wordOf (entryBodyOf (bodyIn c used)) 3 ≡ x .interval = omega (arith, o 3 (omega arith), o 4 (omega arith), o 5 (omega arith), o 6 (omega arith)) in
+    let m : wordOf (entryBodyOf (bodyIn c used)) 7 ≡ x .«octet_maximum» = omega (arith, o 7 (omega arith), o 8 (omega arith), o 9 (omega arith), o 10 (omega arith)) in
+    (λ j. record { opened = not (eqb (o 1 (omega arith) j) 0); ipv = o 2 (omega arith) j; interval = i j; maximum = m j })
     ∙ ap entryOf (same-entry x r (said-entry (y .kind) c r (y .is)))
 
 -- entries whose octets agree are the same

@@ -147,5 +147,5 @@ module _ (cs : List Call) where
         x ≡ record { rate = r .cir; burst = r .cbs; level = x .level; last = x .last }
     kept-scheduler-settings = scheduler-is known (after .bank) (run-agrees-fresh .bank) i h
 
-    pub kept-burst : burst (after .bank) i ≡ burstIn known i
+    pub kept-burst : burst (after .bank) i .0 ≡ burstIn known i
     kept-burst = scheduler-burst known (after .bank) (run-agrees-fresh .bank) i h

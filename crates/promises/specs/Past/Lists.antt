@@ -12,7 +12,7 @@ use Rattle.sizes.specs.Meaning.{gateCount, entryCount, entryOctets, listOctets,
 use Rattle.gate.specs.declared.Entry.{Entry}
 use Rattle.gate.specs.Meaning.{entryAt, entriesFrom}
 use Rattle.record.specs.declared.GateEntryRecord.{GateEntryRecord}
-use Rattle.record.specs.Meaning.{readOf}
+use Rattle.record.specs.Meaning.{bodyIn, readOf}
 use Rattle.bank.specs.Meaning.{Rows, load, entries}
 use Rattle.bank.specs.Store.{getD-load, length-store}
 use Rattle.setup.specs.Meaning.{Listed, entryBodyOf, entryPlace, addEntryOf}
@@ -48,9 +48,9 @@ module _ (s : Rows) (lists c : List ℕ) (x : GateEntryRecord) (whole : length l
       low i h = omega arith
 
   -- its own has the entry behind the others
-  pub own-list : (started : Bool) (used : ℕ) → readOf c started ≡ reading.Taken (kind.GateEntry x) used
+  pub own-list : (call : List ℕ) (started : Bool) (used : ℕ) → c ≡ bodyIn call used → readOf call started ≡ reading.Taken (kind.GateEntry x) used
       → entriesFrom (drop (x .gate * listOctets) lists′) 0 (suc (entries s (x .gate))) ≡ entriesFrom (drop (x .gate * listOctets) lists) 0 (entries s (x .gate)) ++ (entryOf x ∷ [])
-  own-list started used said =
+  own-list call started used shown said =
       let n = entries s (x .gate) in
       let at = x .gate * listOctets in
       let here : x .gate % gateCount ≡ x .gate = omega (arith, ranged .ranges) in
@@ -58,7 +58,7 @@ module _ (s : Rows) (lists c : List ℕ) (x : GateEntryRecord) (whole : length l
       let body : load lists′ (at + n * entryOctets) 0 entryOctets ≡ entryBodyOf c = subst (λ (g : ℕ). load lists′ (g * listOctets + n * entryOctets) 0 entryOctets ≡ entryBodyOf c) here (entry-body s lists c x room whole) in
       let front = entries-agree (drop at lists′) (drop at lists) 0 n (λ j m. getD-drop at lists′ j 0 ∙ loaded-alike lists′ lists at (n * entryOctets) before j (omega (arith, m)) ∙ sym (getD-drop at lists j 0)) in
       let last : entryAt (drop at lists′) (0 + n) ≡ entryOf x =
-      ap (entryAt (drop at lists′)) (zero-add n) ∙ entry-agrees (drop at lists′) (entryBodyOf c) n 0 (λ j m. getD-drop at lists′ (n * entryOctets + j) 0 ∙ octet at n j ∙ sym (getD-load lists′ (at + n * entryOctets) 0 entryOctets j m) ∙ ap (λ (l : List ℕ). getD l j 0) body ∙ ap (λ (i : ℕ). getD (entryBodyOf c) i 0) (sym (zero-add j))) ∙ entry-kept c started x used said in
+      ap (entryAt (drop at lists′)) (zero-add n) ∙ entry-agrees (drop at lists′) (entryBodyOf c) n 0 (λ j m. getD-drop at lists′ (n * entryOctets + j) 0 ∙ octet at n j ∙ sym (getD-load lists′ (at + n * entryOctets) 0 entryOctets j m) ∙ ap (λ (l : List ℕ). getD l j 0) body ∙ ap (λ (i : ℕ). getD (entryBodyOf c) i 0) (sym (zero-add j))) ∙ ap (λ (l : List ℕ). entryAt (entryBodyOf l) 0) shown ∙ entry-kept call started x used said in
       entries-more (drop at lists′) 0 n ∙ ap (λ (l : List Entry). l ++ (entryAt (drop at lists′) (0 + n) ∷ [])) front ∙ ap (λ (e : Entry). entriesFrom (drop at lists) 0 n ++ (e ∷ [])) last
     where
       octet : (at n j : ℕ) → getD lists′ (at + (n * entryOctets + j)) 0 ≡ getD lists′ (at + n * entryOctets + (0 + j)) 0

@@ -75,7 +75,7 @@ module _ (k : Known) (s : Rows) (all : BankSaid k s) where
       whole none ranged = refl
       whole (some r) ranged = omega (arith, ranged .ranges)
 
-  pub scheduler-burst : (i : ℕ) → i < schedulerCount → burst s i ≡ burstIn k i
+  pub scheduler-burst : (i : ℕ) → i < schedulerCount → burst s i .0 ≡ burstIn k i
   scheduler-burst i h = let a = all (schedulerRow i) .schedulers i h refl in ap (λ w. w % 2 ^ 32) (a .bursts) ∙ whole (k .scheduler i) (a .ranged)
     where
       whole : (o : Option SchedulerRecord) → Every (λ r. InRange (kind.Scheduler r)) o → ofIt (λ r. r .cbs .0) 0 o % 2 ^ 32 ≡ ofIt (λ r. r .cbs .0) 0 o

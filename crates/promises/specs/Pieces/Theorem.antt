@@ -6,22 +6,21 @@ use mathlib.Core.List.{List, [], _∷_, _++_}
 use mathlib.Core.Logic.{_≢_}
 use mathlib.Core.Path.{_≡_, refl, sym, ap, subst, _∙_}
 use native.Mathlib.Omega.{arith}
-use lib.Dec.{eqb, ltb}
-use lib.ListN.{length, drop, length-drop, List·getD-append}
+use lib.Dec.{eqb}
+use lib.ListN.{length, drop, length-drop}
 use lib.Seq.{drop-append-le}
-use Rattle.sizes.specs.Meaning.{filterCount, entryCount}
+use Rattle.sizes.specs.Meaning.{filterCount}
 use Rattle.record.specs.declared.Record.{Record}
 use Rattle.record.specs.declared.Refusal.{Refusal}
-use Rattle.record.specs.declared.Refusal.the-variants.{CutShort, NinthEntry, TableLength}
+use Rattle.record.specs.declared.Refusal.the-variants.{CutShort, TableLength}
 use Rattle.record.specs.declared.Reading.{Reading}
 use Rattle.record.specs.Meaning.{readOf, recordLength}
 use Rattle.record.specs.Laws.{read-uses, read-extends}
-use Rattle.record.specs.Ranges.{Ranged, read-ranges}
-use Rattle.bank.specs.Meaning.{store, entries, withEntries}
+use Rattle.record.specs.Body.{body-extends}
 use Rattle.verdict.specs.declared.Answer.{Answer}
 use Rattle.verdict.specs.declared.Verdict.{Verdict}
 use Rattle.verdict.specs.declared.Verdict.the-variants.{Refused, Taken, Passed, Dropped}
-use Rattle.setup.specs.Meaning.{entryBodyOf, addEntryOf, listed as listedTold, entryPlace}
+use Rattle.setup.specs.Meaning.{addEntryOf}
 use Rattle.stage.specs.Meaning.{Bridge, Took, refusedOf, listsTook, readBy, startedOf, takeOf}
 use Rattle.run.specs.Input.Meaning.{NoRefusal, Front, begins, takes, Input}
 use Rattle.promises.specs.Refusals.Keeps.{Done, banks, lists, places, done-way, taken-uses-whole}
@@ -32,27 +31,16 @@ use Rattle.record.specs.declared.Reading.the-variants as reading
 
 -- ---- no octet past the record is looked at
 
--- a gate entry's body is that of its own octets
-body-extends : (s t : List ℕ) → 12 ≤ length s → entryBodyOf (s ++ t) ≡ entryBodyOf s
-body-extends s t h =
-    let at : (k : ℕ) → k ≤ 11 → _ = λ k l. List·getD-append s t 0 k (omega (arith, h, l)) in
-    rw (at 1 (omega arith), at 2 (omega arith), at 3 (omega arith), at 4 (omega arith), at 5 (omega arith), at 6 (omega arith), at 7 (omega arith), at 8 (omega arith), at 9 (omega arith), at 10 (omega arith), at 11 (omega arith))
-
 module _ (b : Bridge) (s t : List ℕ) where
-  done-extends : (r : Record) (used : ℕ) (o : Call → Took) → Done b used r o → Ranged r used → used ≤ length s → o (s ++ t) ≡ o s
-  unfolding addEntryOf
-  done-extends r used o (banks x keeps) k h = refl
-  done-extends r used o (lists x) k h =
-      let n = entries (b .bank) (x .gate) in
-      ap
-      (λ (body : List ℕ). listsTook b used (cond (ltb n entryCount) (listedTold (withEntries (b .bank) (x .gate) (n + 1)) (store (b .lists) (entryPlace (x .gate) n) 0 body) Taken) (listedTold (b .bank) (b .lists) (Refused NinthEntry))))
-      (body-extends s t (omega (arith, k .0, h)))
-  done-extends r used o (places full table) k h = refl
+  done-extends : (r : Record) (used : ℕ) (o : Call → Took) → Done b used r o → (1 ≤ used) × (used ≤ length s) → o (s ++ t) ≡ o s
+  done-extends r used o (banks x keeps) k = refl
+  done-extends r used o (lists x) k = ap (λ (body : List ℕ). listsTook b used (addEntryOf (b .bank) (b .lists) body x)) (body-extends s t used (k .0) (k .1))
+  done-extends r used o (places full table) k = refl
 
   reading-extends : (rd : Reading) → readOf s (startedOf (b .bank)) ≡ rd → readBy b (s ++ t) rd ≡ readBy b s rd
   unfolding readBy
   reading-extends (reading.Refused why) e = refl
-  reading-extends (reading.Taken r used) e = done-extends r used _ (done-way b r used) (read-ranges s (startedOf (b .bank)) r used e) (read-uses s (startedOf (b .bank)) r used e .1)
+  reading-extends (reading.Taken r used) e = done-extends r used _ (done-way b r used) (read-uses s (startedOf (b .bank)) r used e)
 
   table-extends : (full : Bool) → cond full (readBy b s (readOf s (startedOf (b .bank)))) (refusedOf b TableLength) .answer .verdict ≢ Refused CutShort
       → cond full (readBy b (s ++ t) (readOf (s ++ t) (startedOf (b .bank)))) (refusedOf b TableLength) ≡ cond full (readBy b s (readOf s (startedOf (b .bank)))) (refusedOf b TableLength)

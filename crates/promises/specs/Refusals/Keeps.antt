@@ -12,7 +12,7 @@ use Rattle.record.specs.declared.ArrivalRecord.{ArrivalRecord}
 use Rattle.record.specs.declared.GateEntryRecord.{GateEntryRecord}
 use Rattle.record.specs.declared.Refusal.{Refusal}
 use Rattle.record.specs.declared.Refusal.the-variants.{SetUpAlready}
-use Rattle.record.specs.Meaning.{Kind, kindOf, recordLength}
+use Rattle.record.specs.Meaning.{bodyIn, Kind, kindOf, recordLength}
 use Rattle.record.specs.Laws.{read-says}
 use Rattle.bank.specs.Meaning.{Rows}
 use Rattle.filter.specs.declared.Filter.{Filter}
@@ -90,7 +90,7 @@ arrived-refused s lists a found =
 -- the ways to do a record, whatever octets it was read from: to the bank, to the bank and the lists, or to the table
 pub data Done (b : Bridge) (used : ℕ) : Record → (Call → Took) → Type 0 where
   banks : {r : Record} (t : Told) → Keeps (b .bank) t → Done b used r (λ c. bankTook b used t)
-  lists : (r : GateEntryRecord) → Done b used (kind.GateEntry r) (λ c. listsTook b used (addEntryOf (b .bank) (b .lists) c r))
+  lists : (r : GateEntryRecord) → Done b used (kind.GateEntry r) (λ c. listsTook b used (addEntryOf (b .bank) (b .lists) (bodyIn c used) r))
   places : {r : Record} (full : Bool) (table : List Filter) → Done b used r (λ c. cond full (refusedOf b SetUpAlready) (took table (b .bank) (b .lists) (answered used Taken)))
 
 pub done-way : (b : Bridge) (r : Record) (used : ℕ) → Done b used r (λ c. takenOf b c r used)
@@ -121,7 +121,7 @@ module _ (b : Bridge) (why : Refusal) where
 
   done-keeps : (c : Call) (r : Record) (used : ℕ) (o : Call → Took) → Done b used r o → o c .answer .verdict ≡ Refused why → o c ≡ refusedOf b why
   done-keeps c r used o (banks t keeps) = banked-keeps used t keeps
-  done-keeps c r used o (lists x) = listed-keeps used _ (entry-keeps (b .bank) (b .lists) c x why)
+  done-keeps c r used o (lists x) = listed-keeps used _ (entry-keeps (b .bank) (b .lists) (bodyIn c used) x why)
   done-keeps c r used o (places full t) = placed-keeps full SetUpAlready _ refl
 
   call-keeps : (c : Call) (o : Took) → Called b c o → o .answer .verdict ≡ Refused why → o ≡ refusedOf b why
@@ -158,7 +158,7 @@ module _ (b : Bridge) (c : Call) where
 
   done-uses : (r : Record) (used : ℕ) (o : Call → Took) → Done b used r o → NoRefusal (o c .answer .verdict) → o c .answer .used ≡ used
   done-uses r used o (banks t keeps) = given-back used (t .verdict)
-  done-uses r used o (lists x) = given-back used (addEntryOf (b .bank) (b .lists) c x .verdict)
+  done-uses r used o (lists x) = given-back used (addEntryOf (b .bank) (b .lists) (bodyIn c used) x .verdict)
   done-uses r used o (places full table) = placed-used full b SetUpAlready _ used refl
 
   -- what was read and by which kind, and that all of it was used: the kind's octet and the octets of its fields

@@ -24,7 +24,7 @@ use Rattle.record.specs.declared.StartRecord.{StartRecord}
 use Rattle.record.specs.declared.Refusal.{Refusal}
 use Rattle.record.specs.declared.Refusal.the-variants.{CutShort, OutOfRange, OutOfTurn, SetUpAlready, NinthEntry, Missing, BurstTooSmall, NotSetUp, TableLength}
 use Rattle.record.specs.declared.Reading.{Reading}
-use Rattle.record.specs.Meaning.{Kind, kindOf, fieldsOf, valuesAt, fieldsInRange, refusalNumberOf, recordLength, lengthIn, inTurnOf, readAs, readOf}
+use Rattle.record.specs.Meaning.{bodyIn, Kind, kindOf, fieldsOf, valuesAt, fieldsInRange, refusalNumberOf, recordLength, lengthIn, inTurnOf, readAs, readOf}
 use Rattle.bank.specs.Meaning.{Rows, component, port, entries, gateIsSet, meterIsSet, group, schedulerIsSet}
 use Rattle.filter.specs.declared.Filter.{Filter}
 use Rattle.filter.specs.declared.Found.{Found}
@@ -107,9 +107,9 @@ module _ (s : Rows) where
   unfolding startOf
   start-number r miss hit = if-number (incompleteOf s miss) Missing s _ ∙ ap (cond (incompleteOf s miss) 7) (if-number (isFound hit) BurstTooSmall s _)
 
-  entry-ninth-number : (lists input : List ℕ) (r : GateEntryRecord) → refusalIn (addEntryOf s lists input r .verdict) ≡ cond (not (ltb (entries s (r .gate)) entryCount)) 6 0
+  entry-ninth-number : (lists body : List ℕ) (r : GateEntryRecord) → refusalIn (addEntryOf s lists body r .verdict) ≡ cond (not (ltb (entries s (r .gate)) entryCount)) 6 0
   unfolding addEntryOf
-  entry-ninth-number lists input r = entry-number (ltb (entries s (r .gate)) entryCount) _ _ refl refl
+  entry-ninth-number lists body r = entry-number (ltb (entries s (r .gate)) entryCount) _ _ refl refl
 
 module _ (b : Bridge) (c : Call) where
   record-number : (r : Record) (used : ℕ) → refusalIn (takenOf b c r used .answer .verdict) ≡ firstHolding (recordTries b r)
@@ -117,7 +117,7 @@ module _ (b : Bridge) (c : Call) where
   record-number (kind.Port r) used = told-number used (setPortOf (b .bank) r .verdict) _ (port-number (b .bank) r)
   record-number (kind.Filter r) used = place-number (isFilterOf (rowOf (b .table) (r .id))) b _ refl
   record-number (kind.Gate r) used = told-number used (setGateOf (b .bank) r .verdict) _ (gate-number (b .bank) r)
-  record-number (kind.GateEntry r) used = told-number used (addEntryOf (b .bank) (b .lists) c r .verdict) _ (entry-ninth-number (b .bank) (b .lists) c r)
+  record-number (kind.GateEntry r) used = told-number used (addEntryOf (b .bank) (b .lists) (bodyIn c used) r .verdict) _ (entry-ninth-number (b .bank) (b .lists) (bodyIn c used) r)
   record-number (kind.Meter r) used = told-number used (setMeterOf (b .bank) r .verdict) _ (meter-number (b .bank) r)
   record-number (kind.Group r) used = told-number used (setGroupOf (b .bank) r .verdict) _ (group-number (b .bank) r)
   record-number (kind.Scheduler r) used = told-number used (setSchedulerOf (b .bank) r .verdict) _ (scheduler-number (b .bank) r)

@@ -150,7 +150,7 @@ module _ (b : Bridge) (c : Call) (k : Sound (b .bank)) (before : startedOf (b .b
   setup-sound (kind.Port r) used h ranged = port-record-sound (b .bank) k r
   setup-sound (kind.Filter r) used h ranged = placed (isFilterOf (rowOf (b .table) (r .id))) _ k
   setup-sound (kind.Gate r) used h ranged = aside-sound (b .bank) k _ (λ q l m. gate-other (b .bank) q r (λ e. omega (arith, e, l (omega (arith, e)))))
-  setup-sound (kind.GateEntry r) used h ranged = aside-sound (b .bank) k _ (λ q l m. entry-row (b .bank) (b .lists) c r q (λ e. omega (arith, e, l (omega (arith, e)))))
+  setup-sound (kind.GateEntry r) used h ranged = aside-sound (b .bank) k _ (λ q l m. entry-row (b .bank) (b .lists) _ r q (λ e. omega (arith, e, l (omega (arith, e)))))
   setup-sound (kind.Meter r) used h ranged = meter-record-sound (b .bank) k r used ranged
   setup-sound (kind.Group r) used h ranged = group-record-sound (b .bank) k before r used ranged
   setup-sound (kind.Scheduler r) used h ranged = scheduler-record-sound (b .bank) k before r used ranged

@@ -83,7 +83,7 @@ module _ (b : Bridge) (a : ArrivalRecord) (ready : Ready b a) where
     counts = row-counts f row (there .past-meter .at-meter .at-gate .matched)
 
     -- the max SDU holds the MSDU, the burst the max SDU with the largest overhead
-    pub length-high : chargedOf s a .0 ≤ burst s i
+    pub length-high : chargedOf s a .0 ≤ burst s i .0
     length-high =
         let msdu = there .past-meter .at-meter .at-gate .within (counts-max-sdu s row counts (there .named)) in
         omega (arith, msdu, ready .sound .ports (a .port), counts-holds s row counts (there .named))

@@ -174,7 +174,7 @@ module _ (b : Bridge) (reached : Reached b) (whole : length (b .table) ≡ filte
     abbrev j : ℕ
     j = schedulerGroup (b .bank) i
 
-    pub length-within-burst : chargedOf (b .bank) a .0 ≤ burst (b .bank) i
+    pub length-within-burst : chargedOf (b .bank) a .0 ≤ burst (b .bank) i .0
     length-within-burst = length-high b a ready f row ipv mark there
 
     pub scheduler-refuses-none : offeredOf (b .bank) a i j .outcome ≢ Unsound

@@ -14,70 +14,77 @@ use Rattle.scheduler.proofs.step.Statement.{statement}
 use Rattle.scheduler.proofs.step.Tie as tie
 
 -- what passed in holds at each place after the range check
-passed : (c : tie.Else1) → let a = c .before .before .before .before .before .before .args in testOf (a .s) (a .group) (a .residence) (a .arrival) (a .length) ≡ true
+passed : (c : tie.Else1) → let a = c .before .before .before .before .args in testOf (a .s) (a .group) (a .residence) (a .arrival) (a .length) ≡ true
 passed c = sym (c .before .in-range .ensures) ∙ not-false _ (c .if1 .left)
 
-refused : (c : tie.Then1) → let a = c .before .before .before .before .before .before .args in testOf (a .s) (a .group) (a .residence) (a .arrival) (a .length) ≡ false
+refused : (c : tie.Then1) → let a = c .before .before .before .before .args in testOf (a .s) (a .group) (a .residence) (a .arrival) (a .length) ≡ false
 refused c = sym (c .before .in-range .ensures) ∙ not-true _ (c .if1 .taken)
 
-range : (c : tie.Else1) → let a = c .before .before .before .before .before .before .args in Ranged (a .s) (a .group) (a .residence) (a .arrival) (a .length)
-range c = let a = c .before .before .before .before .before .before .args in ranged (a .s) (a .group) (a .residence) (a .arrival) (a .length) (passed c)
+range : (c : tie.Else1) → let a = c .before .before .before .before .args in Ranged (a .s) (a .group) (a .residence) (a .arrival) (a .length)
+range c = let a = c .before .before .before .before .args in ranged (a .s) (a .group) (a .residence) (a .arrival) (a .length) (passed c)
 
-gave : (c : tie.After-later2) → let a = c .before .before .before .before .before .before .before .before .before .args in c .later2 .result ≡ eligibleOf (a .s) (a .group) (a .arrival) (a .length .0)
+gave : (c : tie.After-later2) → let a = c .before .before .before .before .before .before .before .before .args in c .later2 .result ≡ eligibleOf (a .s) (a .group) (a .arrival) (a .length .0)
 gave c = omega arith
 
 returns : tie.Need-returns
-returns c = let a = c .before .before .before .before .before .before .args in
+returns c = let a = c .before .before .before .before .args in
     sym (step-refused (a .s) (a .group) (a .residence) (a .arrival) (a .length) (refused c))
 
 mul-need : tie.Need-mul-need
-mul-need c = let k = range c in omega arith
-
-wait-requires : tie.Need-wait-requires
-wait-requires c κs = let k = range c in omega arith
+mul-need c = let k = range (c .before) in omega arith
 
 add-later : tie.Need-add-later
-add-later c = let k = range (c .before) in let s = c .before .before .before .before .before .before .before .args .s in
-    omega (arith, k, wait-bound (s .level) (s .rate .0) (grains (c .before .before .before .before .before .before .before .args .length .0)) (k .rate-low))
+add-later c =
+    let checked = c .before .before in
+    let k = range checked in
+    let a = checked .before .before .before .before .args in
+    omega (arith, k, wait-bound (a .s .level) (a .s .rate .0) (grains (a .length .0)) (k .rate-low))
 
 add-if2 : tie.Need-add-if2
-add-if2 c = let k = range (c .before .before .before) in omega arith
+add-if2 c = let k = range (c .before .before .before .before) in omega arith
 
 mul-grow : tie.Need-mul-grow
-mul-grow c = let k = range (c .before .before .before .before) in omega arith
-
-grow-requires : tie.Need-grow-requires
-grow-requires c κs = let k = range (c .before .before .before .before) in omega arith
+mul-grow c = let k = range (c .before .before .before .before .before .before) in omega arith
 
 sub-left : tie.Need-sub-left
-sub-left c = let a = c .before .before .before .before .before .before .before .before .before .before .before .args in let k = range (c .before .before .before .before .before) in let g = gave (c .before .before) in
-    omega (arith, enough (a .s) (a .group) (a .residence) (a .arrival) (a .length) (c .before .before .later2 .result) k (omega (arith, g)))
+sub-left c =
+    let timed = c .before .before .before in
+    let checked = timed .before .before .before .before in
+    let a = checked .before .before .before .before .args in
+    let g = gave timed in
+    omega (arith, enough (a .s) (a .group) (a .residence) (a .arrival) (a .length) (timed .later2 .result) (range checked) (omega (arith, g)))
 
 returns-2 : tie.Need-returns-2
-returns-2 c = let a = c .before .before .before .before .before .before .before .before .before .before .before .args in
-    sym (step-admitted (a .s) (a .group) (a .residence) (a .arrival) (a .length) (passed (c .before .before .before .before .before)) (c .before .before .later2 .result) (gave (c .before .before)) (c .grow .result) (c .before .if2 .taken) (c .grow .ensures))
+returns-2 c =
+    let timed = c .before .before .before in
+    let checked = timed .before .before .before .before in
+    let a = checked .before .before .before .before .args in
+    sym (step-admitted (a .s) (a .group) (a .residence) (a .arrival) (a .length) (passed checked) (timed .later2 .result) (gave timed) (c .grow .result) (c .before .before .if2 .taken) (c .grow .ensures))
 
 returns-3 : tie.Need-returns-3
-returns-3 c = let a = c .before .before .before .before .before .before .before .before .before .before .args in
-    sym (step-dropped (a .s) (a .group) (a .residence) (a .arrival) (a .length) (passed (c .before .before .before .before)) (c .before .later2 .result) (gave (c .before)) (c .if2 .left))
+returns-3 c =
+    let timed = c .before in
+    let checked = timed .before .before .before .before in
+    let a = checked .before .before .before .before .args in
+    sym (step-dropped (a .s) (a .group) (a .residence) (a .arrival) (a .length) (passed checked) (timed .later2 .result) (gave timed) (c .if2 .left))
 
 pub step-spec : {M : Type 1} → statement M
 step-spec =
     tie.close
     (tie.spec
-    (λ c. search needs)
-    (λ c. search needs)
     (λ c κs. search needs)
     returns
+    (λ c. search needs)
     mul-need
-    wait-requires
+    (λ c κs. search needs)
     add-later
     (λ c κs. search needs)
     (λ c κs. search needs)
     add-if2
+    (λ c. search needs)
     mul-grow
     (λ c. search needs)
-    grow-requires
+    (λ c κs. search needs)
     sub-left
     returns-2
     returns-3)

@@ -91,7 +91,7 @@ module _ {M : Type 1} (𝓤 : URA M) (H : Heap 𝓤) (A : Atoms 𝓤) (W : Given
   exits r e isQ =
       qed W (‵ (fobs γ (S.the-row .coded .code (r .scheduler))) ∷ ‵ (fbor κ (Body (mem S.the-row) b o γ)) ∷ ‵ (flft κ q) ∷ []) ∵
       suffices ! _ (ends-at 𝓤 H A self.ended stayed (self.clauses 𝓤 H A at-mem run) W (((κ, tt), (q, tt), tt, x, at), tt) (valQ (r .outcome)) (r .outcome) (r .scheduler, (tt, (tt, (tt, (tt, tt))))) (tt, (tt, (tt, (tt, (tt, tt)))))) $
-      says ! (ap (λ (s : Stepped). s .scheduler) e, ap (λ (s : Stepped). s .outcome) e) $ nothing ! $ move ! (3 ∷ 0 ∷ []) $ join ! $
+      says ! e $ nothing ! $ move ! (3 ∷ 0 ∷ []) $ join ! $
       frame ! $ feqI ! (List Val) (vptr b o ∷ []) (vptr b o ∷ []) refl $ fjoin3 ! $ nothing ! $
       owned ! O.the-row (Is O.the-row) (LL.makes O.the-type O′.the-plain 𝓤 H A) n _ isN $ fjoin ! $
       owned ! u64 (Is u64) (uint-makes 𝓤 H A W w64) t _ (refl, ft) $ fjoin ! $
@@ -134,7 +134,7 @@ module _ {M : Type 1} (𝓤 : URA M) (H : Heap 𝓤) (A : Atoms 𝓤) (W : Given
         land ! (from ! (stop !)) (init ! 8 refl (LL.lawful D.the-type D′.the-laws 𝓤 H A W .typed r _ is .0)) $ drop ! $
         rewrite ! 7 (λ (u : Val). ‵ (fat fullShare D′.mir l₆ 0 u)) (ap only (LL.tells D.the-type D′.the-laws r (v ∷ []) is)) refl $
         assigns ! (of-opd ! (load ! (from ! (fld ! refl (stop !))) (look-in ! 7 (sub ! 0 refl (whole !))))) (from ! (hop ! (look ! 17 refl) (stop !))) (store-raw ! 0 refl (LL.lawful S.the-type S′.the-laws 𝓤 H A W .typed (r .scheduler) _ (schedulerIs r _ is) .0)) $
-        assigns ! (of-opd ! (load ! (from ! (fld ! refl (stop !))) (look-in ! 7 (sub ! 2 refl (whole !))))) (from ! (stop !)) (init ! 19 refl (LE.lawful Q.the-type Q′.the-laws 𝓤 H A W tt .typed (r .outcome) _ (outcomeIs r _ is) .0)) $
+        assigns ! (of-opd ! (load ! (from ! (fld ! refl (stop !))) (look-in ! 7 (sub ! 1 refl (whole !))))) (from ! (stop !)) (init ! 19 refl (LE.lawful Q.the-type Q′.the-laws 𝓤 H A W tt .typed (r .outcome) _ (outcomeIs r _ is) .0)) $
         move ! (1 ∷ []) $ drop ! $ owned ! S.the-row (Is S.the-row) (LL.makes S.the-type S′.the-plain 𝓤 H A) (r .scheduler) _ (schedulerIs r _ is) $ move ! (1 ∷ 0 ∷ []) $ closes ! tt S.the-row (r .scheduler) (valS (r .scheduler) ∷ []) b o $
         -- [obs; the borrow; the token; _7; …; _0; …]
         returns ! (look ! 17 refl) $ forget ! 3 refl $ forget ! 5 refl $ forget ! 7 refl $ forget ! 9 refl $ forget ! 11 refl $ forget ! 13 refl $ forget ! 15 refl $ forget ! 17 refl $

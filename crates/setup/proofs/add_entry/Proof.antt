@@ -10,12 +10,12 @@ returns : tie.Need-returns
 returns c =
     let p = c .before .before .before .before .before .before .before .before .before .args in
     rw (c .put-entries .ensures, c .before .before .keep .ensures)
-    (sym (entry-taken (rowsOf (p .bank .now)) (p .lists .now) (p .input .now) (p .r) _ (c .before .before .before .before .before .entries-at .ensures) (c .before .before .before .before .if1 .taken)))
+    (sym (entry-taken (rowsOf (p .bank .now)) (p .lists .now) (p .body .now) (p .r) _ (c .before .before .before .before .before .entries-at .ensures) (c .before .before .before .before .if1 .taken)))
 
 returns-2 : tie.Need-returns-2
 returns-2 c =
     let p = c .before .before .before .before .before .args in
-    sym (entry-ninth (rowsOf (p .bank .now)) (p .lists .now) (p .input .now) (p .r) _ (c .before .entries-at .ensures) (c .if1 .left))
+    sym (entry-ninth (rowsOf (p .bank .now)) (p .lists .now) (p .body .now) (p .r) _ (c .before .entries-at .ensures) (c .if1 .left))
 
 pub add-entry-spec : {M : Type 1} → statement M
 add-entry-spec =

@@ -7,4 +7,4 @@ returns : tie.Need-returns
 returns c = rw (c .full .ensures)
 
 pub fresh-spec : {M : Type 1} → statement M
-fresh-spec = tie.close (tie.spec (λ c. search needs) (λ c κs. search needs) returns)
+fresh-spec = tie.close (tie.spec (λ c κs. search needs) returns)

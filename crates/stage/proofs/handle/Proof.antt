@@ -2,6 +2,7 @@
 use mathlib.Core.Path.{sym, ap, _∙_}
 use denote.Ref.{now}
 use Rattle.record.specs.declared.Record.{Record}
+use Rattle.record.specs.Meaning.{View, bodyOf}
 use Rattle.bank.specs.Meaning.{rowsOf}
 use Rattle.verdict.specs.Meaning.{Told}
 use Rattle.setup.specs.Meaning.{Listed}
@@ -27,9 +28,10 @@ returns-3 c = let a = c .before .before .before .before .before .before .before 
     rw (c .kept2 .ensures) (ap (λ (t : Told). bankSettled (now (a .lists)) (a .used) t) (c .before .set-gate .ensures) ∙ sym (ap (λ (x : Record). takenBy (rowsOf (now (a .bank))) (now (a .lists)) (now (a .input)) x (a .used) (a .miss) (a .hit)) (c .before .before .before .before .taken3 .given .1)))
 
 returns-4 : tie.Need-returns-4
-unfolding takenBy
-returns-4 c = let a = c .before .before .before .before .before .before .before .before .args in
-    rw (c .kept3 .ensures) (ap (λ (t : Listed). listsSettled (a .used) t) (c .before .add-entry .ensures) ∙ sym (ap (λ (x : Record). takenBy (rowsOf (now (a .bank))) (now (a .lists)) (now (a .input)) x (a .used) (a .miss) (a .hit)) (c .before .before .before .before .before .taken4 .given .1)))
+unfolding takenBy bodyOf
+returns-4 c = let a = c .before .before .before .before .before .before .before .before .before .args in
+    let shown = ap (λ (v : View). v .octets) (c .before .before .body .ensures) in
+    rw (c .kept3 .ensures) (ap (λ (t : Listed). listsSettled (a .used) t) (rw shown at (c .before .add-entry .ensures)) ∙ sym (ap (λ (x : Record). takenBy (rowsOf (now (a .bank))) (now (a .lists)) (now (a .input)) x (a .used) (a .miss) (a .hit)) (c .before .before .before .before .before .before .taken4 .given .1)))
 
 returns-5 : tie.Need-returns-5
 unfolding takenBy
@@ -75,6 +77,7 @@ handle-spec =
     (λ c κs. search needs)
     (λ c κs. search needs)
     (λ c. search needs)
+    (λ c κs. search needs)
     (λ c κs. search needs)
     (λ c κs. search needs)
     (λ c. search needs)

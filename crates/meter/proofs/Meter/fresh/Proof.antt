@@ -1,4 +1,4 @@
--- `meter::Meter::fresh` meets its contract: `full` gives each bucket its burst.
+-- `meter::Meter::fresh` meets its contract: `bucket::full` gives each bucket its burst.
 -- Assumes nothing.
 use borrow.Author.Needs.{needs}
 use Rattle.meter.proofs.Meter.fresh.Statement.{statement}
@@ -8,4 +8,4 @@ returns : tie.Need-returns
 returns c = cc
 
 pub fresh-spec : {M : Type 1} → statement M
-fresh-spec = tie.close (tie.spec (λ c. search needs) (λ c κs. search needs) (λ c. search needs) (λ c κs. search needs) returns)
+fresh-spec = tie.close (tie.spec (λ c κs. search needs) (λ c κs. search needs) returns)
