@@ -1,9 +1,10 @@
 -- What stands in the buffer of a piece after a read, what is kept of it at the front, and what is said of a read or a write that fails.
 use Prim.Native.Nat.{ℕ, _≤_}
 use mathlib.Core.Path.{_≡_}
-use mathlib.Core.List.{List, [], _∷_, _++_}
+use mathlib.Core.List.{List, [], _++_}
 use lib.ListN.{length, take, drop}
 use lib.Seq.{slice}
+use Rattle.text.specs.Meaning.{ascii}
 use Rattle.pieces.specs.declared.Failure.{Failure}
 use Rattle.pieces.specs.declared.Failure.the-variants.{Nothing, Input, Output}
 
@@ -27,18 +28,8 @@ keptOf buf from end = frontOf buf (slice from end buf)
 
 -- ---- a read or a write that fails
 
--- ": standard input cannot be read"
-abbrev pub inputFailedText : List ℕ
-inputFailedText =
-    58 ∷ 32 ∷ 115 ∷ 116 ∷ 97 ∷ 110 ∷ 100 ∷ 97 ∷ 114 ∷ 100 ∷ 32 ∷ 105 ∷ 110 ∷ 112 ∷ 117 ∷ 116 ∷ 32 ∷ 99 ∷ 97 ∷ 110 ∷ 110 ∷ 111 ∷ 116 ∷ 32 ∷ 98 ∷ 101 ∷ 32 ∷ 114 ∷ 101 ∷ 97 ∷ 100 ∷ 10 ∷ []
-
--- ": standard output cannot be written"
-abbrev pub outputFailedText : List ℕ
-outputFailedText =
-    58 ∷ 32 ∷ 115 ∷ 116 ∷ 97 ∷ 110 ∷ 100 ∷ 97 ∷ 114 ∷ 100 ∷ 32 ∷ 111 ∷ 117 ∷ 116 ∷ 112 ∷ 117 ∷ 116 ∷ 32 ∷ 99 ∷ 97 ∷ 110 ∷ 110 ∷ 111 ∷ 116 ∷ 32 ∷ 98 ∷ 101 ∷ 32 ∷ 119 ∷ 114 ∷ 105 ∷ 116 ∷ 116 ∷ 101 ∷ 110 ∷ 10 ∷ []
-
 -- the line that says so, after the program's name
 unfoldable pub complaintOf : List ℕ → Failure → List ℕ
 complaintOf program Nothing = []
-complaintOf program Input = program ++ inputFailedText
-complaintOf program Output = program ++ outputFailedText
+complaintOf program Input = program ++ ascii ": standard input cannot be read\n"
+complaintOf program Output = program ++ ascii ": standard output cannot be written\n"

@@ -1,9 +1,9 @@
 -- `pieces::complaint` meets its contract. Assumes nothing.
 use mathlib.Core.Path.{sym, ap, _∙_}
-use Rattle.text.specs.Meaning.{page, written}
+use Rattle.text.specs.Meaning.{ascii, page, written}
 use Rattle.text.specs.Laws.{written-then, written-none}
 use Rattle.pieces.specs.declared.Failure.{Failure}
-use Rattle.pieces.specs.Meaning.{complaintOf, inputFailedText, outputFailedText}
+use Rattle.pieces.specs.Meaning.{complaintOf}
 use Rattle.pieces.proofs.Which.{nothing, input, output}
 use borrow.Author.Needs.{needs}
 use Rattle.pieces.proofs.complaint.Statement.{statement}
@@ -23,7 +23,7 @@ returns-2 c =
     let q = p .before .before .before .before .before in
     let m = q .before .before .before in
     let a = m .before .before .before .args in
-    written-then _ _ _ (a .program .now) inputFailedText (q .put-octets .ensures) (p .put-octets2 .ensures) ∙ ap (λ (f : Failure). written (page (a .out .now) 0) (complaintOf (a .program .now) f)) (sym (input (a .failure) (m .match .keys2)))
+    written-then _ _ _ (a .program .now) (ascii ": standard input cannot be read\n") (q .put-octets .ensures) (p .put-octets2 .ensures) ∙ ap (λ (f : Failure). written (page (a .out .now) 0) (complaintOf (a .program .now) f)) (sym (input (a .failure) (m .match .keys2)))
 
 returns-3 : tie.Need-returns-3
 unfolding complaintOf
@@ -32,7 +32,7 @@ returns-3 c =
     let q = p .before .before .before .before .before in
     let m = q .before .before .before in
     let a = m .before .before .before .args in
-    written-then _ _ _ (a .program .now) outputFailedText (q .put-octets3 .ensures) (p .put-octets4 .ensures) ∙ ap (λ (f : Failure). written (page (a .out .now) 0) (complaintOf (a .program .now) f)) (sym (output (a .failure) (m .match .keys3)))
+    written-then _ _ _ (a .program .now) (ascii ": standard output cannot be written\n") (q .put-octets3 .ensures) (p .put-octets4 .ensures) ∙ ap (λ (f : Failure). written (page (a .out .now) 0) (complaintOf (a .program .now) f)) (sym (output (a .failure) (m .match .keys3)))
 
 pub complaint-spec : {M : Type 1} → statement M
 complaint-spec =
