@@ -1,4 +1,5 @@
 pub mod Meaning
+pub mod Worked
 pub mod Form
 pub mod Laws
 pub mod Room
