@@ -14,7 +14,7 @@ const CLASSES: [[u8; 8]; 8] = [
     [0, 1, 2, 3, 4, 5, 6, 7],
 ];
 
-// `numberOf` in specs/ has document 01's number for each case.
+// `classNumberOf` in specs/ has document 01's number for each case.
 pub enum Class {
     Of(u8),
     // A priority above 7, or a count of classes outside 1 to 8.

@@ -108,7 +108,7 @@ pub enum Record {
     Clear(ClearRecord),
 }
 
-// 01, Refusal numbers. Their numbers are `numberOf`'s.
+// 01, Refusal numbers. Their numbers are `refusalNumberOf`'s.
 pub enum Refusal {
     CutShort,
     UnknownKind,

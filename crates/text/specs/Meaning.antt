@@ -1,6 +1,6 @@
 -- A buffer that is filled from its front: its octets, and the place of the next one. Where there is no place, an octet is left out.
 use Prim.Native.Nat.{ℕ, _+_, zero, suc, _/_, _%_}
-use Prim.Native.Char.{Char, code}
+use Prim.Native.Char.{code}
 use Prim.Native.String.{String, [] as empty, _∷_ as _then_}
 use mathlib.Core.Bool.{cond, Bool}
 use mathlib.Core.List.{List, [], _∷_, _++_}

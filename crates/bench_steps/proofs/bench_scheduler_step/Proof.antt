@@ -1,9 +1,8 @@
 -- `bench_steps::bench_scheduler_step` meets its contract: the words are the scheduler's, `offered` says what becomes of it, and three
 -- words are stored. Assumes nothing.
-use Prim.Native.Nat.{ℕ}
-use mathlib.Core.Path.{_∙_, ap}
+use mathlib.Core.Path.{ap}
 use borrow.Author.Needs.{needs}
-use Rattle.bench_steps.specs.Scheduler.{offeredOf, putOf, toldBy}
+use Rattle.bench_steps.specs.Scheduler.{offeredOf, toldBy}
 use Rattle.bench_steps.proofs.bench_scheduler_step.Statement.{statement}
 use Rattle.bench_steps.proofs.bench_scheduler_step.Tie as tie
 

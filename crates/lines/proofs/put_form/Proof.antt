@@ -1,7 +1,7 @@
 -- `lines::put_form` meets its contract. Invariant: what is left of the form, filled in with the values that are left and put on the page of now,
 -- is all of it put on the first page. Measure: the octets of the form left. Assumes nothing.
-use mathlib.Core.Path.{_≡_, refl, sym, ap, _∙_}
-use Prim.Native.Nat.{_-_, _≤_}
+use mathlib.Core.Path.{_≡_, refl, sym, _∙_}
+use Prim.Native.Nat.{_-_}
 use native.Mathlib.Omega.{arith}
 use borrow.Author.Needs.{needs}
 use lib.ListN.{length, getD, drop}

@@ -1,4 +1,4 @@
--- `scheduler::step` meets its contract. `range` is what the range check tells, `gave` that the eligibility time is the specified one; each return is a case of `stepOf`.
+-- `scheduler::step` meets its contract. `range` is what the range check tells, `gave` that the eligibility time is the specified one; each return is a case of `schedulerStepOf`.
 -- Assumes nothing.
 use mathlib.Core.Path.{_≡_, sym, _∙_}
 use mathlib.Core.Bool.{true, false}
