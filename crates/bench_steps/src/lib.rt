@@ -1,4 +1,6 @@
 // One step of a scheduler, of a meter and of a gate, each kept in words that are lent, as C and Rust call it: what bench/ measures.
+#![tactic(auto)]
+
 ghost use Rattle.std.specs.Prelude.{◌≡◌, ◌<◌};
 ghost use Rattle.gate.specs.Meaning.{gate_number_of};
 ghost use Rattle.scheduler.specs.Meaning.{scheduler_number_of};

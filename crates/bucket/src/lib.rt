@@ -1,6 +1,8 @@
 // The exact arithmetic of a token bucket, for meters and schedulers alike.
 // A level is kept in grains. One grain is 1/(8 * 10^9) octet, so that a rate of r bits per second adds r grains in each nanosecond and
 // no fraction is ever lost (01, Meters; 01, Schedulers).
+#![tactic(auto)]
+
 ghost use Rattle.std.specs.Prelude.{◌≡◌, ℕ, ◌+◌, ◌-◌, ◌*◌, ◌/◌, ◌≤◌, ◌<◌, min};
 ghost use Rattle.bucket.specs.Meaning.{grown, wait_for, ceiling, full_of};
 

@@ -1,4 +1,6 @@
 // The traffic class of an internal priority: the standard's recommended mapping (01, A frame's path).
+#![tactic(auto)]
+
 ghost use Rattle.std.specs.Prelude.{◌≡◌};
 ghost use Rattle.class.specs.Meaning.{traffic_class_of};
 

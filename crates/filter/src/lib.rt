@@ -1,5 +1,7 @@
 // The filter table: what a row says, which rows count as empty, and the first row that a question is about (01, kind 2 and A frame's
 // path, step 1). The table is lent; place n is filter n's.
+#![tactic(auto)]
+
 ghost use Rattle.std.specs.Prelude.{cond, ◌≡◌, ◌+◌, ltb, set};
 ghost use Rattle.bank.specs.Meaning.{rows_of};
 ghost use Rattle.filter.specs.Meaning.{no_row, row_in_range, is_filter_of, names_missing, exceeds_burst, counts_of, fits_of, row_of, row_answers, search_of};

@@ -1,4 +1,6 @@
 // The length of a frame on the wire (01, Schedulers): what a scheduler charges, and what start holds against its burst.
+#![tactic(auto)]
+
 ghost use Rattle.std.specs.Prelude.{◌≡◌, ltb};
 ghost use Rattle.frame.specs.Meaning.{length_of, frame_of};
 

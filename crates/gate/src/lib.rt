@@ -2,6 +2,8 @@
 //
 // Times and intervals are nanoseconds, lengths and maxima octets of MSDU. A list is lent as the octets of its records
 // (01, kind 4: eleven for an entry, its gate's number first); only its first eight whole entries count.
+#![tactic(auto)]
+
 ghost use Rattle.std.specs.Prelude.{◌≡◌, ◌+◌, ◌-◌, ◌*◌, ◌%◌, ◌<◌, ◌≤◌, length};
 ghost use Rattle.sizes.specs.Meaning.{entry_octets};
 ghost use Rattle.gate.specs.Meaning.{word_of, entry_at, entries_of, cycle_of, found_of, in_force_of, spent_of, closed_of, limited_of, passed_of, gate_step_of};

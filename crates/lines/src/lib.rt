@@ -1,5 +1,7 @@
 // The text form of records (docs/TEXT.md), put octet by octet into a buffer that is lent, as `text` does it.
 // The text of a kind is a form, in which a capital letter stands for the value of a field (`put_value`).
+#![tactic(auto)]
+
 ghost use Rattle.std.specs.Prelude.{◌≡◌};
 ghost use Rattle.record.specs.declared.Record.TheVariants.{Port, Filter, Gate, GateEntry, Meter, Group, Scheduler, Start, Arrival, Clear};
 ghost use Rattle.text.specs.Meaning.{page, written};

@@ -1,4 +1,6 @@
 // A flow meter: two token buckets that colour a frame green, yellow or red (01, Meters: MEF 10.3 for one flow).
+#![tactic(auto)]
+
 ghost use Rattle.std.specs.Prelude.{◌≡◌, ◌-◌, min};
 ghost use Rattle.meter.specs.Meaning.{fresh_meter_of, colour_of, filled_of, painted_of, meter_in_range, spilt, yellow_outcome};
 ghost use Rattle.meter.specs.Range.{Ready};

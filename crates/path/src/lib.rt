@@ -1,4 +1,6 @@
 // A frame's path: document 01's five steps, each a function that ends in a drop or in the next step.
+#![tactic(auto)]
+
 ghost use Rattle.std.specs.Prelude.{◌≡◌, ◌*◌, ◌%◌, ◌≤◌, length, take, drop};
 ghost use Rattle.sizes.specs.Meaning.{gate_count, entry_count, entry_octets, list_octets, lists_octets};
 ghost use Rattle.gate.specs.Meaning.{entries_of, gate_step_of};

@@ -1,5 +1,7 @@
 // Standard input in pieces and standard output: what the programs that read a stream of records share.
 // A record that the end of a piece cuts waits at the front of the buffer for its rest.
+#![tactic(auto)]
+
 ghost use Rattle.std.specs.Prelude.{◌≡◌, ◌≤◌, ◌-◌, min, length};
 ghost use Rattle.text.specs.Meaning.{page, written};
 ghost use Rattle.pieces.specs.Meaning.{Kept, kept_of, Fills, complaint_of};

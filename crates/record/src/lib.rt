@@ -1,5 +1,7 @@
 // The reader of document 01's records: octets, and whether a start was taken, give a refusal, or a record and how many octets it uses.
 // specs/Meaning.antt has the table of kinds and fields that all of this follows, what reading means, and what is shown of a record.
+#![tactic(auto)]
+
 ghost use Rattle.std.specs.Prelude.{cond, ◌≡◌, ℕ, ◌+◌, ◌≤◌, ◌<◌, length};
 ghost use Rattle.record.specs.Meaning.{kind_of, number_at, port, filter, gate, gate_entry, meter, group, scheduler, start, arrival, clear, refusal_number_of, whole_of, read_of, length_in, in_turn_in, whole_in, view_of, body_of};
 

@@ -1,5 +1,7 @@
 // Prints the records of standard input as text, one line for each (docs/TEXT.md), and on a refusal by the reader its number and the offset.
 // The input is read in pieces: a record that is cut at the end of a piece waits there for its rest.
+#![tactic(auto)]
+
 ghost use Rattle.std.specs.Prelude.{◌≡◌, ◌+◌, ◌<◌, ◌≤◌, length};
 ghost use Rattle.lines.specs.Room.{record_room};
 ghost use Rattle.records.specs.Room.{half, HasRoom};

@@ -1,4 +1,6 @@
 // A piece of input, record by record, up to a refusal or to where the output is nearly full; a caller that has the table by value.
+#![tactic(auto)]
+
 ghost use Rattle.std.specs.Prelude.{◌≡◌, ◌+◌, length, drop};
 ghost use Rattle.bank.specs.Meaning.{rows_of};
 ghost use Rattle.stage.specs.Meaning.{bridge};

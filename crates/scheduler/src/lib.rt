@@ -1,4 +1,6 @@
 // An ATS scheduler: when a frame becomes eligible, and what its bucket then holds (01, Schedulers).
+#![tactic(auto)]
+
 ghost use Rattle.std.specs.Prelude.{◌≡◌, ℕ, ◌+◌, ◌≤◌, max};
 ghost use Rattle.scheduler.specs.declared.Stepped.{Stepped};
 ghost use Rattle.scheduler.specs.Meaning.{scheduler_step_of, scheduler_in_range};

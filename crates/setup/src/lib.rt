@@ -1,5 +1,7 @@
 // Taking a record that is no filter and no arrival: what it does to the bank of words, and to the octets of the gate lists (01, Records,
 // kinds 1, 3 to 8 and 10). The meaning of each function is in specs/Meaning.antt; a refusal leaves everything as it was.
+#![tactic(auto)]
+
 ghost use Rattle.std.specs.Prelude.{◌≡◌, ◌+◌, ◌≤◌, max};
 ghost use Rattle.sizes.specs.Meaning.{gate_count, scheduler_count, entry_octets, lists_octets};
 ghost use Rattle.bank.specs.Meaning.{rows_of};

@@ -2,6 +2,8 @@
 // `specs/Meaning.antt` has the same names for the definitions. A test holds include/transomrib.h to them.
 
 // Places of the filter table.
+#![tactic(auto)]
+
 pub const FILTERS: usize = 64;
 
 // Ports.

@@ -1,5 +1,7 @@
 // One call, one record: the whole of document 01 put together.
 // The filter table, the bank of words and the octets of the gate lists are lent; all zeros and an empty table are a fresh bridge.
+#![tactic(auto)]
+
 ghost use Rattle.std.specs.Prelude.{◌≡◌};
 ghost use Rattle.bank.specs.Meaning.{rows_of};
 ghost use Rattle.stage.specs.Meaning.{bridge, took, answered, filter_of, no_key, key_of, take_of};

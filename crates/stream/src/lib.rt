@@ -1,5 +1,7 @@
 // Records from standard input, of any length: read in pieces and run a piece at a time, the lines written as the pieces are done.
 // A record that the end of a piece cuts waits at the front of the buffer for its rest. The table is copied for a piece and not for a record.
+#![tactic(auto)]
+
 ghost use Rattle.std.specs.Prelude.{◌≡◌};
 ghost use Rattle.bank.specs.Meaning.{rows_of};
 ghost use Rattle.stage.specs.Meaning.{Bridge, bridge};

@@ -1,6 +1,8 @@
 // What the programs print, put octet by octet into a buffer that is lent (01, Program `ingress`).
 // Each function takes the place of the next octet and gives the place after its last one. Octets for which the buffer has no place are
 // left out, so that nothing here asks anything of the buffer.
+#![tactic(auto)]
+
 ghost use Rattle.std.specs.Prelude.{◌≡◌};
 ghost use Rattle.bank.specs.Meaning.{rows_of};
 ghost use Rattle.text.specs.Meaning.{page, put_of, written, digits_of, pair_of, pass_line_of, drop_line_of, end_line_of, refused_line_of, item_of, filter_items_of, gate_items_of, meter_item_of, port_item_of, report_of, filters_of, gates_of, meters_of, ports_of, time_of};

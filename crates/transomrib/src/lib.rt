@@ -1,4 +1,6 @@
 // What a C program links: the whole stage as one call, and the counters and flags by name. include/transomrib.h declares it.
+#![tactic(auto)]
+
 ghost use Rattle.std.specs.Prelude.{◌≡◌};
 ghost use mir.Val.{bool_byte};
 ghost use Rattle.bank.specs.Meaning.{rows_of};

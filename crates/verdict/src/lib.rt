@@ -1,4 +1,6 @@
 // What a call answers: how many octets it used, and the verdict (01, Refusal numbers; 01, A frame's path).
+#![tactic(auto)]
+
 ghost use Rattle.std.specs.Prelude.{◌≡◌};
 ghost use Rattle.verdict.specs.Meaning.{drop_number_of};
 
