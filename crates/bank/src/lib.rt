@@ -19,7 +19,7 @@ pub type Words = [u64; WORDS];
 pub type Lists = [u8; sizes::LISTS];
 
 // What is the bridge component's own, and no table's.
-#[derive(Drop)]
+#[derive(Clone, Copy)]
 pub struct Component {
     // Traffic classes; 0 before start.
     pub classes: u64,
@@ -29,7 +29,7 @@ pub struct Component {
     pub overhead: u64,
 }
 
-#[derive(Drop)]
+#[derive(Clone, Copy)]
 pub struct Port {
     pub set: bool,
     // In octets.
@@ -39,7 +39,7 @@ pub struct Port {
 }
 
 // The counters of a filter, and its oversize flag.
-#[derive(Drop)]
+#[derive(Clone, Copy)]
 pub struct Counters {
     pub matching: u64,
     pub passing_sdu: u64,
@@ -51,7 +51,7 @@ pub struct Counters {
 }
 
 // A scheduler group.
-#[derive(Drop)]
+#[derive(Clone, Copy)]
 pub struct Group {
     pub set: bool,
     // The most that a frame may wait, in ns.
@@ -61,7 +61,7 @@ pub struct Group {
 }
 
 // What is counted of a filter.
-#[derive(Drop)]
+#[derive(Clone, Copy)]
 pub enum Counter {
     Matching,
     PassingSdu,

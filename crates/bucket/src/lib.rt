@@ -7,11 +7,11 @@ ghost use Rattle.std.specs.Prelude.{◌≡◌, ℕ, ◌+◌, ◌-◌, ◌*◌, �
 ghost use Rattle.bucket.specs.Meaning.{grown, wait_for, ceiling, full_of};
 
 // Bits per second.
-#[derive(Drop)]
+#[derive(Clone, Copy)]
 pub struct Rate(pub u64);
 
 // Octets: a burst, a length. Never bits.
-#[derive(Drop)]
+#[derive(Clone, Copy)]
 pub struct Octets(pub u32);
 
 // The grains of one octet.

@@ -17,7 +17,7 @@ const CLASSES: [[u8; 8]; 8] = [
 ];
 
 // `class_number_of` in specs/ has document 01's number for each case.
-#[derive(Drop)]
+#[derive(Clone, Copy)]
 pub enum Class {
     Of(u8),
     // A priority above 7, or a count of classes outside 1 to 8.

@@ -12,7 +12,7 @@ use bank::Words;
 // A row, as document 01's kind 2 has it but for the identifier, which is the row's place. All numbers: whatever a caller leaves in the
 // table is a row. A row of zeros is empty.
 #[repr(C)]
-#[derive(Drop)]
+#[derive(Clone, Copy)]
 pub struct Filter {
     pub handle: u32,
     // In octets; 0 is none.
@@ -31,7 +31,7 @@ pub struct Filter {
 }
 
 // What a search asks of a row.
-#[derive(Drop)]
+#[derive(Clone, Copy)]
 pub enum Asks {
     // Whether a frame uses it.
     Fits,
@@ -44,14 +44,14 @@ pub enum Asks {
 }
 
 // What of a frame a row has to match.
-#[derive(Drop)]
+#[derive(Clone, Copy)]
 pub struct Key {
     pub handle: u32,
     pub priority: u8,
 }
 
 // A question on the places `from` up to and without `to`. Only `Fits` looks at the key.
-#[derive(Drop)]
+#[derive(Clone, Copy)]
 pub struct Question {
     pub from: usize,
     pub to: usize,
@@ -60,7 +60,7 @@ pub struct Question {
 }
 
 // What a search found: no row, or a row and its place.
-#[derive(Drop)]
+#[derive(Clone, Copy)]
 pub enum Found {
     Nothing,
     At(usize, Filter),

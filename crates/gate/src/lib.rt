@@ -10,7 +10,7 @@ ghost use Rattle.gate.specs.Meaning.{word_of, entry_at, entries_of, cycle_of, fo
 
 // A gate as its record sets it up (01, kind 3), with its flags and its count. All zeros but for the record's fields is a
 // fresh gate.
-#[derive(Drop)]
+#[derive(Clone, Copy)]
 pub struct Gate {
     // The state and the IPV (8 null) that hold where no entry is in force.
     pub opened: bool,
@@ -27,7 +27,7 @@ pub struct Gate {
 }
 
 // An entry of a list.
-#[derive(Drop)]
+#[derive(Clone, Copy)]
 pub struct Entry {
     pub opened: bool,
     pub ipv: u8,
@@ -37,21 +37,21 @@ pub struct Entry {
 }
 
 // An entry in force: its place in the list, and when the interval in which it is in force began.
-#[derive(Drop)]
+#[derive(Clone, Copy)]
 pub struct Found {
     pub index: usize,
     pub start: u64,
     pub entry: Entry,
 }
 
-#[derive(Drop)]
+#[derive(Clone, Copy)]
 pub enum InForce {
     Nothing,
     Here(Found),
 }
 
 // What becomes of a frame. `gate_number_of` in specs/ has document 01's number for each case.
-#[derive(Drop)]
+#[derive(Clone, Copy)]
 pub enum Outcome {
     // With the IPV in force, 8 null.
     Passed(u8),
@@ -60,7 +60,7 @@ pub enum Outcome {
     TooManyOctets,
 }
 
-#[derive(Drop)]
+#[derive(Clone, Copy)]
 pub struct Stepped {
     pub gate: Gate,
     pub outcome: Outcome,

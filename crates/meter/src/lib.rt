@@ -7,7 +7,7 @@ ghost use Rattle.meter.specs.Range.{Ready};
 
 use bucket::{Octets, Rate};
 
-#[derive(Drop)]
+#[derive(Clone, Copy)]
 pub struct Meter {
     pub cir: Rate,
     pub cbs: Octets,
@@ -27,7 +27,7 @@ pub struct Meter {
 }
 
 // What becomes of a frame. `meter_number_of` in specs/ has document 01's number for each case.
-#[derive(Drop)]
+#[derive(Clone, Copy)]
 pub enum Outcome {
     Green,
     // Passes, drop eligible from here on.
@@ -41,7 +41,7 @@ pub enum Outcome {
     TooEarly,
 }
 
-#[derive(Drop)]
+#[derive(Clone, Copy)]
 pub struct Metered {
     pub meter: Meter,
     pub outcome: Outcome,

@@ -7,7 +7,7 @@ ghost use Rattle.text.specs.Meaning.{page, written};
 ghost use Rattle.pieces.specs.Meaning.{Kept, kept_of, Fills, complaint_of};
 
 // What the system has failed to do, if anything.
-#[derive(Drop)]
+#[derive(Clone, Copy)]
 pub enum Failure {
     Nothing,
     Input,
@@ -15,7 +15,7 @@ pub enum Failure {
 }
 
 // The octets that are there after a read, and whether the read failed: that is not the end of the input, at which it gives none.
-#[derive(Drop)]
+#[derive(Clone, Copy)]
 pub struct Filled {
     pub end: usize,
     pub failed: bool,

@@ -8,7 +8,7 @@ ghost use Rattle.record.specs.Meaning.{kind_of, number_at, port, filter, gate, g
 use bucket::{Octets, Rate};
 
 // 01, kind 1. The overhead is in octets.
-#[derive(Drop)]
+#[derive(Clone, Copy)]
 pub struct PortRecord {
     pub port: u8,
     pub overhead: u8,
@@ -16,7 +16,7 @@ pub struct PortRecord {
 
 // 01, kind 2. Any-handle, the block and all numbers as they stand in the record: priority 8 is any, a max SDU of 0 none, meter and
 // scheduler 255 none. The max SDU is in octets.
-#[derive(Drop)]
+#[derive(Clone, Copy)]
 pub struct FilterRecord {
     pub id: u8,
     pub any_handle: u8,
@@ -30,7 +30,7 @@ pub struct FilterRecord {
 }
 
 // 01, kind 3. State 0 is closed, 1 open; IPV 8 is null; the base time is in nanoseconds.
-#[derive(Drop)]
+#[derive(Clone, Copy)]
 pub struct GateRecord {
     pub id: u8,
     pub state: u8,
@@ -41,7 +41,7 @@ pub struct GateRecord {
 }
 
 // 01, kind 4. State and IPV as in kind 3; the interval is in nanoseconds, the maximum in octets, 2^32 - 1 being none.
-#[derive(Drop)]
+#[derive(Clone, Copy)]
 pub struct GateEntryRecord {
     pub gate: u8,
     pub state: u8,
@@ -51,7 +51,7 @@ pub struct GateEntryRecord {
 }
 
 // 01, kind 5.
-#[derive(Drop)]
+#[derive(Clone, Copy)]
 pub struct MeterRecord {
     pub id: u8,
     pub cir: Rate,
@@ -65,14 +65,14 @@ pub struct MeterRecord {
 }
 
 // 01, kind 6. The residence is in nanoseconds.
-#[derive(Drop)]
+#[derive(Clone, Copy)]
 pub struct GroupRecord {
     pub id: u8,
     pub residence: u32,
 }
 
 // 01, kind 7.
-#[derive(Drop)]
+#[derive(Clone, Copy)]
 pub struct SchedulerRecord {
     pub id: u8,
     pub group: u8,
@@ -81,13 +81,13 @@ pub struct SchedulerRecord {
 }
 
 // 01, kind 8.
-#[derive(Drop)]
+#[derive(Clone, Copy)]
 pub struct StartRecord {
     pub classes: u8,
 }
 
 // 01, kind 9. The time is in nanoseconds, the MSDU in octets.
-#[derive(Drop)]
+#[derive(Clone, Copy)]
 pub struct ArrivalRecord {
     pub port: u8,
     pub time: u64,
@@ -98,13 +98,13 @@ pub struct ArrivalRecord {
 }
 
 // 01, kind 10. Flag 1 is a filter's oversize, 2 a gate's invalid-receive, 3 a gate's octets, 4 a meter's red.
-#[derive(Drop)]
+#[derive(Clone, Copy)]
 pub struct ClearRecord {
     pub flag: u8,
     pub id: u8,
 }
 
-#[derive(Drop)]
+#[derive(Clone, Copy)]
 pub enum Record {
     Port(PortRecord),
     Filter(FilterRecord),
@@ -119,7 +119,7 @@ pub enum Record {
 }
 
 // 01, Refusal numbers. Their numbers are `refusal_number_of`'s.
-#[derive(Drop)]
+#[derive(Clone, Copy)]
 pub enum Refusal {
     CutShort,
     UnknownKind,
@@ -135,7 +135,7 @@ pub enum Refusal {
 }
 
 // What reading gives: a refusal, or the record and how many octets it uses, its kind included.
-#[derive(Drop)]
+#[derive(Clone, Copy)]
 pub enum Reading {
     Refused(Refusal),
     Taken(Record, usize),

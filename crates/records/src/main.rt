@@ -14,7 +14,7 @@ const HALF: usize = 32_768;
 
 // Where the reading of a piece stands: the octets of the piece that are read, the octets read in all, whether a start was read, the octets of
 // the output that wait to be written, whether to go on in this piece, whether nothing more is to be read at all, and what has failed.
-#[derive(Drop)]
+#[derive(Clone, Copy)]
 struct Progress {
     at: usize,
     offset: u64,

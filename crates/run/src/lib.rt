@@ -12,7 +12,7 @@ use filter::Filter;
 use verdict::{Answer, Drop, Pass, Verdict};
 
 // How far a run is.
-#[derive(Drop)]
+#[derive(Clone, Copy)]
 pub struct Progress {
     // Octets of the piece that are taken.
     pub at: usize,
@@ -84,7 +84,7 @@ pub fn run(
     p
 }
 
-#[derive(Drop)]
+#[derive(Clone, Copy)]
 pub struct Chunk {
     pub table: [Filter; sizes::FILTERS],
     pub progress: Progress,

@@ -7,7 +7,7 @@ ghost use Rattle.scheduler.specs.Meaning.{scheduler_step_of, scheduler_in_range}
 
 use bucket::{Octets, Rate};
 
-#[derive(Drop)]
+#[derive(Clone, Copy)]
 pub struct Scheduler {
     // CIR.
     pub rate: Rate,
@@ -20,7 +20,7 @@ pub struct Scheduler {
 }
 
 // What becomes of a frame. `scheduler_number_of` in specs/ has document 01's number for each case.
-#[derive(Drop)]
+#[derive(Clone, Copy)]
 pub enum Outcome {
     // Eligible at this time, in ns.
     Admitted { at: u64 },
@@ -30,7 +30,7 @@ pub enum Outcome {
     Refused,
 }
 
-#[derive(Drop)]
+#[derive(Clone, Copy)]
 pub struct Stepped {
     pub scheduler: Scheduler,
     pub outcome: Outcome,

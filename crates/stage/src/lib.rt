@@ -13,7 +13,7 @@ use record::{ArrivalRecord, FilterRecord, Reading, Record, Refusal};
 use verdict::{Answer, Verdict};
 
 // What a call is to do: the record as read, and the two searches of the filter table that it needs.
-#[derive(Drop)]
+#[derive(Clone, Copy)]
 pub struct Plan {
     pub reading: Reading,
     pub first: Question,
@@ -21,7 +21,7 @@ pub struct Plan {
 }
 
 // What a call gives: the row to store and its place, which is past the table's end where there is none, and the answer.
-#[derive(Drop)]
+#[derive(Clone, Copy)]
 pub struct Done {
     pub at: usize,
     pub row: Filter,

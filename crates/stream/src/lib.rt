@@ -15,7 +15,7 @@ use pieces::Failure;
 use run::Progress;
 
 // How a stream ended.
-#[derive(Drop)]
+#[derive(Clone, Copy)]
 pub struct Drained {
     // What has failed: the stream then did not come to its end, and the rest tells how far it came.
     pub failure: Failure,
@@ -26,7 +26,7 @@ pub struct Drained {
     pub octets: u64,
 }
 
-#[derive(Drop)]
+#[derive(Clone, Copy)]
 struct State {
     table: [Filter; sizes::FILTERS],
     // Octets at the front of the buffer that are not taken yet, and those that were taken before them.

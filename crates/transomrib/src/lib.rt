@@ -15,7 +15,7 @@ use verdict::{Answer, Verdict};
 
 // An answer as numbers. A field that says nothing of the verdict is 0.
 #[repr(C)]
-#[derive(Drop)]
+#[derive(Clone, Copy)]
 pub struct Reply {
     // The eligibility time, in ns.
     pub eligible: u64,

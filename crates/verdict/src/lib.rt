@@ -7,7 +7,7 @@ ghost use Rattle.verdict.specs.Meaning.{drop_number_of};
 use record::Refusal;
 
 // Why a frame is dropped. `drop_number_of` in specs/ has document 01's number for each case.
-#[derive(Drop)]
+#[derive(Clone, Copy)]
 pub enum Drop {
     // The oversize flag stands.
     OversizeBlocked,
@@ -26,7 +26,7 @@ pub enum Drop {
 }
 
 // What a frame that passes carries.
-#[derive(Drop)]
+#[derive(Clone, Copy)]
 pub struct Pass {
     // The internal priority: the gate's IPV, or the frame's own.
     pub priority: u8,
@@ -39,7 +39,7 @@ pub struct Pass {
     pub eligible: u64,
 }
 
-#[derive(Drop)]
+#[derive(Clone, Copy)]
 pub enum Verdict {
     Refused(Refusal),
     // A record that is no arrival.
@@ -48,7 +48,7 @@ pub enum Verdict {
     Dropped(Drop),
 }
 
-#[derive(Drop)]
+#[derive(Clone, Copy)]
 pub struct Answer {
     // A refusal uses 0 octets, a taken record its whole length.
     pub used: usize,

@@ -4,7 +4,7 @@ use libc::STDOUT_FILENO;
 use scheduler::{Outcome, Scheduler};
 
 // A scheduler, and its group's last time.
-#[derive(Drop)]
+#[derive(Clone, Copy)]
 struct Alone {
     scheduler: Scheduler,
     group: u64,
