@@ -57,9 +57,9 @@ module _ (es : List Entry) where
   pub after_invalid_receive : (g : Gate) (frames : List Frame) → g.invalid_receive_flag ≡ true → (gate_after g es frames).invalid_receive_flag ≡ true
   unfolding gate_after
   after_invalid_receive g [] e = e
-  after_invalid_receive g (a ∷ more) e = after_invalid_receive _ more (step_invalid_receive g es a.time a.octets ∙ rw e)
+  after_invalid_receive g (a ∷ more) e = after_invalid_receive (gate_step_of g es a.time a.octets).gate more (step_invalid_receive g es a.time a.octets ∙ rw e)
 
   pub after_octets : (g : Gate) (frames : List Frame) → g.octets_flag ≡ true → (gate_after g es frames).octets_flag ≡ true
   unfolding gate_after
   after_octets g [] e = e
-  after_octets g (a ∷ more) e = after_octets _ more (step_octets g es a.time a.octets ∙ rw e)
+  after_octets g (a ∷ more) e = after_octets (gate_step_of g es a.time a.octets).gate more (step_octets g es a.time a.octets ∙ rw e)
