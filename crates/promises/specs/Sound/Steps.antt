@@ -98,8 +98,8 @@ module _ (b : Bridge) (a : ArrivalRecord) (ready : Ready b a) where
           rate_low = x.rate_low set;
           rate_high = x.rate_high;
           last_high = x.last_high;
-          group_high = g.last-high;
+          group_high = g.last_high;
           arrival_high = ready.time_high;
-          residence_low = g.residence-low (ready.sound.complete ready.begun i set);
-          residence_high = g.residence-high;
+          residence_low = g.residence_low (ready.sound.complete ready.begun i set);
+          residence_high = g.residence_high;
         }
