@@ -1,4 +1,1 @@
 pub mod Meaning
-pub mod Store
-pub mod Rows
-pub mod Laws

@@ -1,4 +1,1 @@
 pub mod Meaning
-pub mod Every
-pub mod Rules
-pub mod Worked

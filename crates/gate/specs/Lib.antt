@@ -1,7 +1,1 @@
 pub mod Meaning
-pub mod Walk
-pub mod Cases
-pub mod Times
-pub mod Flags
-pub mod Octets
-pub mod Worked

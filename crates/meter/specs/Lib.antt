@@ -1,6 +1,2 @@
 pub mod Meaning
 pub mod Range
-pub mod Fill
-pub mod Cases
-pub mod Laws
-pub mod Worked

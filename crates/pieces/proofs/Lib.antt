@@ -1,2 +1,3 @@
 pub mod Moved
 pub mod Which
+pub mod Laws

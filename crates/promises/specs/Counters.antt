@@ -1,5 +1,2 @@
 -- The counters: each is the count of its own frames since the bridge was fresh, modulo 2^64.
 pub mod Meaning
-pub mod Tally
-pub mod Discards
-pub mod Runs

@@ -1,6 +1,2 @@
 -- An input may come in pieces, wherever they are cut.
 pub mod Meaning
-pub mod Theorem
-pub mod Runs
-pub mod UsedUp
-pub mod Whole

@@ -1,3 +1,2 @@
 -- A spoiled row is an empty row.
 pub mod Meaning
-pub mod Theorem

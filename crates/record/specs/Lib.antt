@@ -2,5 +2,3 @@ pub mod Meaning
 pub mod Sorts
 pub mod Cases
 pub mod Laws
-pub mod Ranges
-pub mod Body

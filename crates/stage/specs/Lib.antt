@@ -1,4 +1,2 @@
 pub mod Meaning
 pub mod Plan
-pub mod Agree
-pub mod Entries

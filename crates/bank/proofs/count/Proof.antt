@@ -1,6 +1,6 @@
 -- `bank::count` meets its contract: the word is read, and one more is stored (`count_put`).
 use Rattle.std.proofs.Common.{rules}
-use Rattle.bank.specs.Laws.{count_put}
+use Rattle.bank.proofs.Laws.{count_put}
 use Rattle.bank.proofs.count.Statement.{statement}
 use Rattle.bank.proofs.count.Tie as tie
 

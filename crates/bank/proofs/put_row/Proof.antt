@@ -1,6 +1,6 @@
 -- `bank::put_row` meets its contract: eight stores in a row are `rows_put`, and lending the array to `known` tells its length.
 use Rattle.std.proofs.Common.{refl, arith, rules}
-use Rattle.bank.specs.Rows.{rows_put}
+use Rattle.bank.proofs.Rows.{rows_put}
 use Rattle.bank.proofs.put_row.Statement.{statement}
 use Rattle.bank.proofs.put_row.Tie as tie
 

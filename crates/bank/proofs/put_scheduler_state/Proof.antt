@@ -1,6 +1,6 @@
 -- `bank::put_scheduler_state` meets its contract: of two stores into one row the second has the word of the first.
 use Rattle.std.proofs.Common.{◌∙◌, rules}
-use Rattle.bank.specs.Rows.{row_twice}
+use Rattle.bank.proofs.Rows.{row_twice}
 use Rattle.bank.specs.Meaning.{row_with}
 use Rattle.bank.proofs.put_scheduler_state.Statement.{statement}
 use Rattle.bank.proofs.put_scheduler_state.Tie as tie

@@ -1,6 +1,6 @@
 -- `bank::put_word` meets its contract: one store is `word_put`, and lending the array to `known` tells its length.
 use Rattle.std.proofs.Common.{arith, rules}
-use Rattle.bank.specs.Laws.{word_put}
+use Rattle.bank.proofs.Laws.{word_put}
 use Rattle.bank.proofs.put_word.Statement.{statement}
 use Rattle.bank.proofs.put_word.Tie as tie
 

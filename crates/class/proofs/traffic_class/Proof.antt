@@ -3,7 +3,7 @@
 use native.Mathlib.Omega.{arith}
 use borrow.Author.Rules.{rules}
 use Rattle.class.specs.Meaning.{class_rows, traffic_class_of}
-use Rattle.class.specs.Rules.{InTable, in_table_lem}
+use Rattle.class.proofs.Rules.{InTable, in_table_lem}
 use Rattle.class.proofs.traffic_class.Statement.{statement}
 use Rattle.class.proofs.traffic_class.Tie as tie
 

@@ -4,7 +4,7 @@ use mathlib.Core.Path.{◌≡◌}
 use native.Mathlib.Omega.{arith}
 use native.Mathlib.Nat.{zero-add}
 use Rattle.gate.specs.Meaning.{entries_in, entries_of, cycle_of}
-use Rattle.gate.specs.Walk.{rest_of, rest_all, cycle_more, cycle_done}
+use Rattle.gate.proofs.Walk.{rest_of, rest_all, cycle_more, cycle_done}
 use Rattle.gate.proofs.cycle.Statement.{statement}
 use Rattle.sizes.specs.Meaning.{entry_count}
 use Rattle.gate.proofs.cycle.Tie as tie

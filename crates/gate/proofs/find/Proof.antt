@@ -3,7 +3,7 @@ use Prim.Native.Nat.{◌-◌, ◌≤◌}
 use mathlib.Core.Path.{◌≡◌, sym, ◌∙◌}
 use native.Mathlib.Omega.{arith}
 use Rattle.gate.specs.Meaning.{entries_in, entries_of, found_of}
-use Rattle.gate.specs.Walk.{rest_of, rest_all, found_here, found_later, found_none}
+use Rattle.gate.proofs.Walk.{rest_of, rest_all, found_here, found_later, found_none}
 use Rattle.gate.proofs.find.Statement.{statement}
 use Rattle.sizes.specs.Meaning.{entry_count}
 use Rattle.gate.proofs.find.Tie as tie

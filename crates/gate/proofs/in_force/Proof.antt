@@ -4,7 +4,7 @@ use mathlib.Core.Path.{sym, ◌∙◌}
 use native.Mathlib.Omega.{arith}
 use native.Mathlib.Nat.{mod-le}
 use borrow.Author.Rules.{rules}
-use Rattle.gate.specs.Walk.{in_force_early, in_force_later}
+use Rattle.gate.proofs.Walk.{in_force_early, in_force_later}
 use Rattle.gate.proofs.in_force.Statement.{statement}
 use Rattle.gate.proofs.in_force.Tie as tie
 

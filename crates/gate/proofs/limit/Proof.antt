@@ -1,7 +1,7 @@
 -- `gate::limit` meets its contract. Assumes nothing.
 use mathlib.Core.Path.{sym}
 use borrow.Author.Rules.{rules}
-use Rattle.gate.specs.Cases.{limited_none, limited_enough, limited_exceeded}
+use Rattle.gate.proofs.Cases.{limited_none, limited_enough, limited_exceeded}
 use Rattle.gate.proofs.limit.Statement.{statement}
 use Rattle.gate.proofs.limit.Tie as tie
 

@@ -3,7 +3,7 @@ use mathlib.Core.Path.{sym, ap, ◌∙◌}
 use borrow.Author.Rules.{rules}
 use Rattle.gate.specs.declared.InForce.{InForce}
 use Rattle.gate.specs.Meaning.{passed_of}
-use Rattle.gate.specs.Cases.{passed_record_open, passed_record_closed, passed_entry_open, passed_entry_closed}
+use Rattle.gate.proofs.Cases.{passed_record_open, passed_record_closed, passed_entry_open, passed_entry_closed}
 use Rattle.gate.proofs.pass.Statement.{statement}
 use Rattle.gate.proofs.pass.Tie as tie
 

@@ -1,6 +1,6 @@
 -- `gate::spent_at` meets its contract. Assumes nothing.
 use mathlib.Core.Path.{sym}
-use Rattle.gate.specs.Cases.{spent_same, spent_other}
+use Rattle.gate.proofs.Cases.{spent_same, spent_other}
 use Rattle.gate.proofs.spent_at.Statement.{statement}
 use Rattle.gate.proofs.spent_at.Tie as tie
 

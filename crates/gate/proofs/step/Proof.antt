@@ -2,7 +2,7 @@
 use mathlib.Core.Path.{sym}
 use borrow.Author.Rules.{rules}
 use Rattle.gate.specs.Meaning.{entries_of}
-use Rattle.gate.specs.Cases.{step_blocked, step_unblocked}
+use Rattle.gate.proofs.Cases.{step_blocked, step_unblocked}
 use Rattle.gate.proofs.step.Statement.{statement}
 use Rattle.gate.proofs.step.Tie as tie
 

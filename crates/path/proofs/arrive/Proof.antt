@@ -1,7 +1,7 @@
 -- `path::arrive` meets its contract: each return is a case of `arrival_of`.
 use Rattle.std.proofs.Common.{sym, rules}
 use Rattle.bank.specs.Meaning.{rows_of}
-use Rattle.path.specs.Cases.{arrival_back, arrival_matched, arrival_unmatched}
+use Rattle.path.proofs.Cases.{arrival_back, arrival_matched, arrival_unmatched}
 use Rattle.path.proofs.arrive.Statement.{statement}
 use Rattle.path.proofs.arrive.Tie as tie
 

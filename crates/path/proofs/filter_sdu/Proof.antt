@@ -1,7 +1,7 @@
 -- `path::filter_sdu` meets its contract: each return is a case of `policedOf`.
 use Rattle.std.proofs.Common.{sym, rules}
 use Rattle.bank.specs.Meaning.{rows_of}
-use Rattle.path.specs.Cases.{sdu_blocked, sdu_oversize, sdu_passes}
+use Rattle.path.proofs.Cases.{sdu_blocked, sdu_oversize, sdu_passes}
 use Rattle.path.proofs.filter_sdu.Statement.{statement}
 use Rattle.path.proofs.filter_sdu.Tie as tie
 

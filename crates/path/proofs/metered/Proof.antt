@@ -3,7 +3,7 @@ use Rattle.std.proofs.Common.{◌≡◌, sym, rules}
 use Rattle.bank.specs.Meaning.{rows_of}
 use Rattle.meter.specs.declared.Outcome.TheVariants.{Green, Yellow, YellowDropped, Red, OutOfRange, TooEarly}
 use Rattle.path.specs.Meaning.{coloured_of, metered_by}
-use Rattle.path.specs.Cases.{metered_none, metered_by_lem}
+use Rattle.path.proofs.Cases.{metered_none, metered_by_lem}
 use Rattle.path.proofs.metered.Statement.{statement}
 use Rattle.path.proofs.metered.Tie as tie
 

@@ -3,7 +3,7 @@ use Rattle.std.proofs.Common.{◌≡◌, sym, rules}
 use Rattle.bank.specs.Meaning.{rows_of}
 use Rattle.gate.specs.declared.Outcome.TheVariants.{Passed, Blocked, Closed, TooManyOctets}
 use Rattle.path.specs.Meaning.{reached_of, gated_by}
-use Rattle.path.specs.Cases.{gated_by_lem}
+use Rattle.path.proofs.Cases.{gated_by_lem}
 use Rattle.path.proofs.reach.Statement.{statement}
 use Rattle.path.proofs.reach.Tie as tie
 

@@ -3,7 +3,7 @@ use Rattle.std.proofs.Common.{◌≡◌, sym, ◌∙◌, rules}
 use Rattle.bank.specs.Meaning.{rows_of}
 use Rattle.scheduler.specs.declared.Outcome.TheVariants.{Admitted, Dropped, Refused}
 use Rattle.path.specs.Meaning.{offered_of, scheduled_by}
-use Rattle.path.specs.Cases.{scheduled_none, scheduled_by_lem, scheduled_admitted}
+use Rattle.path.proofs.Cases.{scheduled_none, scheduled_by_lem, scheduled_admitted}
 use Rattle.path.proofs.schedule.Statement.{statement}
 use Rattle.path.proofs.schedule.Tie as tie
 

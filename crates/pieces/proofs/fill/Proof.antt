@@ -5,7 +5,7 @@ use native.Mathlib.Omega.{arith}
 use lib.ListN.{length, take, drop}
 use borrow.Author.Rules.{rules}
 use borrow.Rule.Slice.PartMut.{take_put}
-use Rattle.pieces.specs.Laws.{fills_none, fills_some}
+use Rattle.pieces.proofs.Laws.{fills_none, fills_some}
 use Rattle.pieces.proofs.fill.Statement.{statement}
 use Rattle.pieces.proofs.fill.Tie as tie
 

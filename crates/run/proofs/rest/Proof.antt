@@ -1,5 +1,5 @@
 -- `run::rest` meets its contract. Assumes nothing.
-use Rattle.run.specs.Cases.{rest_some, rest_none}
+use Rattle.run.proofs.Cases.{rest_some, rest_none}
 use Rattle.std.proofs.Common.{rules}
 use Rattle.run.proofs.rest.Statement.{statement}
 use Rattle.run.proofs.rest.Tie as tie

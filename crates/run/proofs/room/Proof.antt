@@ -1,5 +1,5 @@
 -- `run::room` meets its contract. Assumes nothing.
-use Rattle.run.specs.Cases.{room_never, room_some}
+use Rattle.run.proofs.Cases.{room_never, room_some}
 use Rattle.run.proofs.room.Statement.{statement}
 use Rattle.run.proofs.room.Tie as tie
 

@@ -60,7 +60,7 @@ use Rattle.stage.proofs.take.Symbol.{name as #stage·take}
 use Rattle.stage.proofs.take.Met as take-thm
 use Rattle.run.specs.declared.Progress.{Progress}
 use Rattle.run.specs.Meaning.{printed, printed_of, fewer_of, ran, piece_run_of}
-use Rattle.run.specs.Cases.{fewer_falls, run_over, run_turn}
+use Rattle.run.proofs.Cases.{fewer_falls, run_over, run_turn}
 use Rattle.run.specs.contracts.Progress as K
 use Rattle.run.proofs.Progress.TheLaws as K'
 use Rattle.run.specs.contracts.rest as rest'

@@ -2,7 +2,7 @@
 use Rattle.std.proofs.Common.{ℕ, rules}
 use Rattle.text.specs.Meaning.{drop_line_of}
 use Rattle.run.specs.Meaning.{printed_by}
-use Rattle.run.specs.Cases.{told_quiet, told_aloud}
+use Rattle.run.proofs.Cases.{told_quiet, told_aloud}
 use Rattle.run.proofs.tell_drop.Statement.{statement}
 use Rattle.run.proofs.tell_drop.Tie as tie
 

@@ -2,7 +2,7 @@
 use Rattle.std.proofs.Common.{ℕ, rules}
 use Rattle.text.specs.Meaning.{pass_line_of}
 use Rattle.run.specs.Meaning.{printed_by}
-use Rattle.run.specs.Cases.{told_quiet, told_aloud}
+use Rattle.run.proofs.Cases.{told_quiet, told_aloud}
 use Rattle.run.proofs.tell_pass.Statement.{statement}
 use Rattle.run.proofs.tell_pass.Tie as tie
 

@@ -5,11 +5,11 @@ use mathlib.Core.Bool.{true, false}
 use borrow.Author.Rules.{rules}
 use borrow.Author.Tests.{not-true, not-false}
 use native.Mathlib.Omega.{arith}
-use Rattle.bucket.specs.Laws.{wait_bound}
+use Rattle.bucket.proofs.Laws.{wait_bound}
 use Rattle.bucket.specs.Meaning.{grains}
 use Rattle.scheduler.specs.Meaning.{eligible_of}
-use Rattle.scheduler.specs.Range.{Ranged, ranged, test_of}
-use Rattle.scheduler.specs.Cases.{step_refused, step_admitted, step_dropped, enough}
+use Rattle.scheduler.proofs.Range.{Ranged, ranged, test_of}
+use Rattle.scheduler.proofs.Cases.{step_refused, step_admitted, step_dropped, enough}
 use Rattle.scheduler.proofs.step.Statement.{statement}
 use Rattle.scheduler.proofs.step.Tie as tie
 

@@ -2,7 +2,7 @@
 use borrow.Author.Rules.{rules}
 use mathlib.Core.Path.{sym}
 use Rattle.bank.specs.Meaning.{rows_of}
-use Rattle.setup.specs.Cases.{entry_taken, entry_ninth}
+use Rattle.setup.proofs.Cases.{entry_taken, entry_ninth}
 use Rattle.setup.proofs.add_entry.Statement.{statement}
 use Rattle.setup.proofs.add_entry.Tie as tie
 

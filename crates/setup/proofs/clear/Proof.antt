@@ -1,7 +1,7 @@
 -- `setup::clear` meets its contract: the flag says which case of `clear_of` holds. Assumes nothing.
 use borrow.Author.Rules.{rules}
 use mathlib.Core.Path.{sym, ◌∙◌}
-use Rattle.setup.specs.Cases.{clear_oversize, clear_invalid_receive, clear_octets, clear_red, clear_none}
+use Rattle.setup.proofs.Cases.{clear_oversize, clear_invalid_receive, clear_octets, clear_red, clear_none}
 use Rattle.setup.proofs.clear.Statement.{statement}
 use Rattle.setup.proofs.clear.Tie as tie
 

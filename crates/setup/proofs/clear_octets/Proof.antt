@@ -3,7 +3,7 @@ use borrow.Author.Rules.{rules}
 use mathlib.Core.Path.{sym, ap, ◌∙◌}
 use mathlib.Core.Bool.{not}
 use Rattle.setup.specs.Meaning.{clear_octets_of}
-use Rattle.setup.specs.Cases.{if_refused, if_goes_on}
+use Rattle.setup.proofs.Cases.{if_refused, if_goes_on}
 use Rattle.setup.proofs.clear_octets.Statement.{statement}
 use Rattle.setup.proofs.clear_octets.Tie as tie
 

@@ -3,7 +3,7 @@ use borrow.Author.Rules.{rules}
 use mathlib.Core.Path.{sym, ap, ◌∙◌}
 use Rattle.bank.specs.declared.Group.{Group}
 use Rattle.setup.specs.Meaning.{set_group_of}
-use Rattle.setup.specs.Cases.{if_refused, if_goes_on}
+use Rattle.setup.proofs.Cases.{if_refused, if_goes_on}
 use Rattle.setup.proofs.set_group.Statement.{statement}
 use Rattle.setup.proofs.set_group.Tie as tie
 

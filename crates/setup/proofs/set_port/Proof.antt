@@ -3,7 +3,7 @@ use borrow.Author.Rules.{rules}
 use mathlib.Core.Path.{sym, ap, ◌∙◌}
 use Rattle.bank.specs.declared.Port.{Port}
 use Rattle.setup.specs.Meaning.{set_port_of}
-use Rattle.setup.specs.Cases.{if_refused, if_goes_on}
+use Rattle.setup.proofs.Cases.{if_refused, if_goes_on}
 use Rattle.setup.proofs.set_port.Statement.{statement}
 use Rattle.setup.proofs.set_port.Tie as tie
 

@@ -2,7 +2,7 @@
 use borrow.Author.Rules.{rules}
 use mathlib.Core.Path.{sym, ◌∙◌}
 use Rattle.setup.specs.Meaning.{set_scheduler_of}
-use Rattle.setup.specs.Cases.{if_refused, if_goes_on}
+use Rattle.setup.proofs.Cases.{if_refused, if_goes_on}
 use Rattle.setup.proofs.set_scheduler.Statement.{statement}
 use Rattle.setup.proofs.set_scheduler.Tie as tie
 

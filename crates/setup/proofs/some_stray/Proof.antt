@@ -6,7 +6,7 @@ use borrow.Author.Rules.{rules}
 use Rattle.bank.specs.Meaning.{rows_of}
 use Rattle.sizes.specs.Meaning.{gate_count}
 use Rattle.setup.specs.Meaning.{stray_of, some_of}
-use Rattle.setup.specs.Cases.{some_more}
+use Rattle.setup.proofs.Cases.{some_more}
 use Rattle.setup.proofs.some_stray.Statement.{statement}
 use Rattle.setup.proofs.some_stray.Tie as tie
 

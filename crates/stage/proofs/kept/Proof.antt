@@ -3,7 +3,7 @@ use mathlib.Core.Path.{sym, ap}
 use Rattle.sizes.specs.Meaning.{filter_count}
 use Rattle.filter.specs.Meaning.{no_row}
 use Rattle.verdict.specs.declared.Answer.{Answer}
-use Rattle.stage.specs.Agree.{answered_is}
+use Rattle.stage.proofs.Agree.{answered_is}
 use borrow.Author.Rules.{rules}
 use Rattle.stage.proofs.kept.Statement.{statement}
 use Rattle.stage.proofs.kept.Tie as tie

@@ -79,7 +79,7 @@ use Rattle.stage.specs.declared.Plan.{Plan}
 use Rattle.stage.specs.declared.Done.{Done}
 use Rattle.stage.specs.Meaning.{bridge, took, answered, take_of}
 use Rattle.stage.specs.Plan.{plan_of, settled, decided_of}
-use Rattle.stage.specs.Agree.{take-length, take_is}
+use Rattle.stage.proofs.Agree.{take-length, take_is}
 use Rattle.filter.proofs.SharedRef as words
 use Rattle.stage.specs.contracts.Plan as P
 use Rattle.stage.proofs.Plan.TheLaws as P'

@@ -1,7 +1,7 @@
 -- `stream::drain` meets its contract. Assumes nothing.
 use Rattle.std.proofs.Common.{refl, rules}
 use Rattle.bank.specs.Meaning.{rows_of}
-use Rattle.stream.specs.Laws.{stands_drains}
+use Rattle.stream.proofs.Laws.{stands_drains}
 use Rattle.stream.proofs.drain.Statement.{statement}
 use Rattle.stream.proofs.drain.Tie as tie
 

@@ -2,11 +2,11 @@
 use Rattle.std.proofs.Common.{◌≡◌, ℕ, ◌^◌, ◌<◌, length, take, ap, ◌∙◌, arith, length-take, rules}
 use Rattle.pieces.specs.declared.Failure.TheVariants.{Nothing, Input}
 use Rattle.pieces.specs.Meaning.{Kept}
-use Rattle.pieces.specs.Laws.{waiting_at_most}
+use Rattle.pieces.proofs.Laws.{waiting_at_most}
 use Rattle.stage.specs.Meaning.{bridge}
 use Rattle.bank.specs.Meaning.{rows_of}
 use Rattle.run.specs.Meaning.{piece_run_of}
-use Rattle.stream.specs.Laws.{stands_still, stands_on, asked_empty, refused_above}
+use Rattle.stream.proofs.Laws.{stands_still, stands_on, asked_empty, refused_above}
 use Rattle.stream.proofs.piece.Statement.{statement}
 use Rattle.stream.proofs.piece.Tie as tie
 

@@ -5,7 +5,7 @@ use Rattle.bank.specs.Meaning.{rows_of}
 use Rattle.stage.specs.Meaning.{bridge}
 use Rattle.stream.specs.Meaning.{empty_table}
 use Rattle.stream.specs.Stands.{Stands}
-use Rattle.stream.specs.Laws.{stands_first}
+use Rattle.stream.proofs.Laws.{stands_first}
 use Rattle.stream.proofs.pieces.Statement.{statement}
 use Rattle.stream.proofs.pieces.Tie as tie
 

@@ -4,7 +4,7 @@ use mathlib.Core.Path.{sym, ap, ◌∙◌}
 use borrow.Author.Rules.{rules}
 use Rattle.sizes.specs.Meaning.{filter_count, gate_count, meter_count}
 use Rattle.transomrib.specs.Meaning.{if_in_table}
-use Rattle.transomrib.specs.Cases.{chosen_1, chosen_2, chosen_3, chosen_4, chosen_5, chosen_6, chosen_7, chosen_8, chosen_9, chosen_10, chosen_11, chosen_none}
+use Rattle.transomrib.proofs.Cases.{chosen_1, chosen_2, chosen_3, chosen_4, chosen_5, chosen_6, chosen_7, chosen_8, chosen_9, chosen_10, chosen_11, chosen_none}
 use Rattle.transomrib.proofs.choose.Statement.{statement}
 use Rattle.transomrib.proofs.choose.Tie as tie
 

@@ -1,7 +1,7 @@
 -- `transomrib::in_table` meets its contract. Assumes nothing.
 use mathlib.Core.Path.{sym}
 use native.Mathlib.Omega.{arith}
-use Rattle.transomrib.specs.Cases.{in_table_lem, past_table}
+use Rattle.transomrib.proofs.Cases.{in_table_lem, past_table}
 use Rattle.transomrib.proofs.in_table.Statement.{statement}
 use Rattle.transomrib.proofs.in_table.Tie as tie
 

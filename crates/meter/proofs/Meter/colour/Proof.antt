@@ -9,7 +9,7 @@ use Rattle.bucket.specs.Meaning.{grains}
 use Rattle.meter.specs.declared.Meter.{Meter}
 use Rattle.meter.specs.Meaning.{meter_in_range, painted_of}
 use Rattle.meter.specs.Range.{InRange, in_range}
-use Rattle.meter.specs.Cases.{colour_out_of_range, colour_too_early, colour_painted}
+use Rattle.meter.proofs.Cases.{colour_out_of_range, colour_too_early, colour_painted}
 use Rattle.meter.proofs.Meter.colour.Statement.{statement}
 use Rattle.meter.proofs.Meter.colour.Tie as tie
 

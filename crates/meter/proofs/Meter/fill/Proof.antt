@@ -6,7 +6,7 @@ use borrow.Author.Rules.{rules}
 use native.Mathlib.Omega.{arith}
 use Rattle.bucket.specs.Meaning.{grains}
 use Rattle.meter.specs.Meaning.{spilt}
-use Rattle.meter.specs.Fill.{spilt_less, fill_committed, fill_excess, filled_is}
+use Rattle.meter.proofs.Fill.{spilt_less, fill_committed, fill_excess, filled_is}
 use Rattle.meter.proofs.Meter.fill.Statement.{statement}
 use Rattle.meter.proofs.Meter.fill.Tie as tie
 

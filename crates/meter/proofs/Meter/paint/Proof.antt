@@ -7,7 +7,7 @@ use borrow.Author.Rules.{rules}
 use borrow.Author.Tests.{leb-true}
 use Rattle.meter.specs.Meaning.{meter_holding}
 use Rattle.logic.specs.Laws.{conjuncts}
-use Rattle.meter.specs.Cases.{takes, painted_stopped_lem, painted_green_lem, painted_yellow_lem, painted_red_lem}
+use Rattle.meter.proofs.Cases.{takes, painted_stopped_lem, painted_green_lem, painted_yellow_lem, painted_red_lem}
 use Rattle.meter.specs.declared.Outcome.{Outcome}
 use Rattle.meter.proofs.Meter.paint.Statement.{statement}
 use Rattle.meter.proofs.Meter.paint.Tie as tie

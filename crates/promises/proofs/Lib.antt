@@ -1,0 +1,14 @@
+pub mod Zeros
+pub mod Imposters
+pub mod Refusals
+pub mod Past
+pub mod Flags
+pub mod Counters
+pub mod Ways
+pub mod Untouched
+pub mod Spoiled
+pub mod Starred
+pub mod Single
+pub mod Pieces
+pub mod Bursts
+pub mod Sound

@@ -1,0 +1,2 @@
+-- A spoiled row is an empty row.
+pub mod Theorem
