@@ -1,2 +1,2 @@
 pub mod Ranges
-pub mod Body
+pub mod BodyLaws

@@ -6,7 +6,7 @@ use Rattle.record.specs.declared.GateEntryRecord.{GateEntryRecord}
 use Rattle.record.specs.declared.Record.TheVariants.{GateEntry}
 use Rattle.record.specs.declared.Reading.TheVariants.{Taken as Read}
 use Rattle.record.specs.Meaning.{body_in, read_of}
-use Rattle.record.proofs.Body.{read_entry_body}
+use Rattle.record.proofs.BodyLaws.{read_entry_body}
 use Rattle.bank.specs.Meaning.{load, entries}
 use Rattle.setup.specs.Meaning.{entry_place, add_entry_of}
 use Rattle.setup.proofs.Cases.{entry_taken}

@@ -12,7 +12,7 @@ use Rattle.record.specs.declared.Refusal.TheVariants.{CutShort, TableLength}
 use Rattle.record.specs.declared.Reading.{Reading}
 use Rattle.record.specs.Meaning.{read_of, record_length}
 use Rattle.record.specs.Laws.{read_uses, read_extends}
-use Rattle.record.proofs.Body.{body_extends}
+use Rattle.record.proofs.BodyLaws.{body_extends}
 use Rattle.verdict.specs.declared.Answer.{Answer}
 use Rattle.verdict.specs.declared.Verdict.{Verdict}
 use Rattle.verdict.specs.declared.Verdict.TheVariants.{Refused, Taken, Passed, Dropped}
