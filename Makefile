@@ -16,20 +16,20 @@ export CARGO_TARGET_DIR = $(CURDIR)/target/second
 
 run:
 	@echo 'proving and building ingress: some minutes the first time' >&2
-	@rt check ingress >/dev/null
+	@tools/build program ingress
 	@tools/x86-64 run target/bin/ingress <crates/ingress/stdin
 
 test:
 	@.ci/run
 
 lib:
-	@rt staticlib transomrib | grep '^rt: target/'
+	@tools/build archive transomrib_c transomrib
 
 second:
 	@$(CARGO) build --release --offline --manifest-path second/Cargo.toml
 
 programs:
-	@rt check ingress report records >/dev/null
+	@tools/build program ingress report records
 
 check-second:
 	@$(CARGO) test --release --offline --manifest-path second/Cargo.toml

@@ -7,16 +7,16 @@ tools/x86-64 here || { echo 'bench: nanoseconds under an emulator say nothing; m
 mkdir -p target/bench
 second='--extern second=target/second/release/libsecond.rlib'
 
-archive() { # LIBRARY: the words with which rustc links its archive
-  rt staticlib "$1" >/dev/null
-  echo "-L target/staticlib -l static=$1"
+archive() { # CRATE NAME: the words with which rustc links its archive
+  tools/build archive "$1" "$2" >/dev/null
+  echo "-L target/staticlib -l static=$2"
 }
 
 for name in "$@"; do
   case $name in
-  ingress) rt check ingress >/dev/null && words=$second ;;
-  stage) words="$second $(archive transomrib)" ;;
-  *) words=$(archive bench_steps) ;;
+  ingress) tools/build program ingress && words=$second ;;
+  stage) words="$second $(archive transomrib_c transomrib)" ;;
+  *) words=$(archive bench_steps bench_steps) ;;
   esac
   # shellcheck disable=SC2086
   rustc --edition 2021 -O "bench/$name.rs" $words -o "target/bench/$name"

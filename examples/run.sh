@@ -1,12 +1,12 @@
 #!/bin/sh
 # Builds examples/transomrib.c with the C library, plainly and with the sanitizers, runs both and compares what they print.
 # The address sanitizer does not run under the toolchain's emulator: on a machine that is not an x86-64 one there is the plain form alone.
-# The library comes first: rt staticlib transomrib
+# The library comes first: make lib
 set -eu
 cd "$(dirname "$0")/.."
 library=target/staticlib/libtransomrib.a
 built=target/examples
-[ -f $library ] || { echo "$library is missing: rt staticlib transomrib" >&2; exit 1; }
+[ -f $library ] || { echo "$library is missing: make lib" >&2; exit 1; }
 mkdir -p $built
 flags="-std=c11 -Wall -Wextra -Werror -Iinclude"
 tools/x86-64 cc $flags -O2 examples/transomrib.c $library -o $built/plain
