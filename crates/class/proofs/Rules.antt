@@ -1,7 +1,7 @@
 -- The rules of the table, each proved once over the whole of it.
-use Rattle.std.specs.Prelude.{ℕ, ◌+◌, ◌-◌, ◌*◌, ◌/◌, ◌%◌, ◌≤◌, ◌<◌, Bool, true, false, List, [], ◌∷◌, ◌≡◌, refl, leb, ltb, eqb, get_or}
+use Rattle.std.specs.Prelude.{ℕ, ◌+◌, ◌-◌, ◌*◌, ◌/◌, ◌%◌, ◌≤◌, ◌<◌, Bool, true, false, ◌≡◌, refl, leb, ltb, eqb, get_or}
 use Rattle.std.proofs.Common.{arith, leb-true, ltb-true, eqb-true, le-leb}
-use Rattle.class.specs.Meaning.{class_at, class_rows, in_table}
+use Rattle.class.specs.Meaning.{class_at, class_rows, importance, in_table}
 use Rattle.class.proofs.Every.{every, every_at}
 use Rattle.logic.specs.Laws.{conjuncts}
 
@@ -64,10 +64,6 @@ class_highest classes low high =
     let count : classes - 1 + 1 ≡ classes = omega arith in
     let e = every_at highest 8 all_highest (classes - 1) (omega arith) in
     eqb-true _ _ (rw count at e)
-
--- the priorities from the least important to the most: 1 is background traffic, below the default 0
-abbrev pub importance : List ℕ
-importance = 1 ∷ 0 ∷ 2 ∷ 3 ∷ 4 ∷ 5 ∷ 6 ∷ 7 ∷ []
 
 -- a more important priority never has a lower class: k stands for two places in `importance` and a count
 implies : Bool → Bool → Bool

@@ -35,6 +35,10 @@ class_rows = priority0 ∷ priority1 ∷ priority2 ∷ priority3 ∷ priority4 �
 abbrev pub class_at : ℕ → ℕ → ℕ
 class_at priority classes = get_or (get_or class_rows priority []) (classes - 1) 0
 
+-- the priorities from the least important to the most: 1 is background traffic, below the default 0
+abbrev pub importance : List ℕ
+importance = 1 ∷ 0 ∷ 2 ∷ 3 ∷ 4 ∷ 5 ∷ 6 ∷ 7 ∷ []
+
 -- a priority and a count of classes that the table has
 abbrev pub in_table : ℕ → ℕ → Bool
 in_table priority classes = leb priority 7 && leb 1 classes && leb classes 8
