@@ -68,6 +68,7 @@ pub struct Stepped {
 
 // A frame of `msdu` octets that reaches the gate at `time`: what it gets, and the gate after it.
 // Ruled out: a frame of just the octets left is dropped; a closed gate also sets the octets flag.
+#[tactic(auto, using(crate::proofs::Cases::step_blocked, crate::proofs::Cases::step_unblocked))]
 pub fn step(gate: Gate, list: &[u8], time: u64, msdu: u64) -> Stepped
     ensures { result ≡ gate_step_of gate (entries_of list.now) time msdu }
 {
@@ -85,6 +86,7 @@ pub fn step(gate: Gate, list: &[u8], time: u64, msdu: u64) -> Stepped
 
 // The entry in force at `time`.
 // Ruled out: at an interval's end its entry is still in force; at the base time none is.
+#[tactic(auto, using(crate::proofs::Walk::in_force_early, crate::proofs::Walk::in_force_later))]
 pub fn in_force(list: &[u8], base: u64, time: u64) -> InForce
     ensures { result ≡ in_force_of (entries_of list.now) base time }
 {
@@ -97,6 +99,7 @@ pub fn in_force(list: &[u8], base: u64, time: u64) -> InForce
 }
 
 // A gate with no flag, by what is in force.
+#[tactic(auto, using(crate::proofs::Cases::passed_record_open, crate::proofs::Cases::passed_record_closed, crate::proofs::Cases::passed_entry_open, crate::proofs::Cases::passed_entry_closed))]
 fn pass(gate: Gate, here: InForce, msdu: u64) -> Stepped
     ensures { result ≡ passed_of gate here msdu }
 {
@@ -134,6 +137,7 @@ fn close(gate: Gate) -> Stepped
 }
 
 // An open entry, by the octets left.
+#[tactic(auto, using(crate::proofs::Cases::limited_none, crate::proofs::Cases::limited_enough, crate::proofs::Cases::limited_exceeded))]
 fn limit(gate: Gate, found: Found, msdu: u64) -> Stepped
     ensures { result ≡ limited_of gate found msdu }
 {
@@ -166,6 +170,7 @@ fn limit(gate: Gate, found: Found, msdu: u64) -> Stepped
     }
 }
 
+#[tactic(auto, using(crate::proofs::Cases::spent_same, crate::proofs::Cases::spent_other))]
 fn spent_at(gate: Gate, start: u64) -> u64
     ensures { result ≡ spent_of gate start }
 {
@@ -206,6 +211,7 @@ fn rest(duration: u64, cycle: u64) -> u64
 }
 
 // The entry in whose interval `offset` falls, counted from the start of a cycle.
+#[tactic(auto, using(crate::proofs::Walk::found_here, crate::proofs::Walk::found_later, crate::proofs::Walk::found_none))]
 fn find(list: &[u8], time: u64, offset: u64) -> InForce
     requires { offset ≤ time }
     ensures { result ≡ found_of time (entries_of list.now) 0 offset }
