@@ -80,6 +80,7 @@ impl Meter {
 
     // A frame of `msdu` octets at `time`, in ns: the meter fills, then colours the frame and spends what it takes.
     // Ruled out: with coupling, committed tokens above CBS that are lost; a frame dropped for yellow that sets the red flag.
+    #[tactic(auto, using(crate::specs::Range::in_range, crate::proofs::Cases::colour_out_of_range, crate::proofs::Cases::colour_too_early, crate::proofs::Cases::colour_painted))]
     pub fn colour(self, time: u64, msdu: Octets, drop_eligible: bool) -> Metered
         ensures { result ≡ colour_of self time msdu drop_eligible }
     {
@@ -99,6 +100,7 @@ impl Meter {
         self.fill(time).paint(need, drop_eligible)
     }
 
+    #[tactic(auto, unfolding(crate::specs::Meaning::meter_in_range))]
     fn in_range(self, time: u64, msdu: Octets) -> bool
         ensures { result ≡ meter_in_range self time msdu }
     {
@@ -137,6 +139,7 @@ impl Meter {
         m
     }
 
+    #[tactic(auto, using(crate::proofs::Cases::painted_stopped_lem, crate::proofs::Cases::painted_green_lem, crate::proofs::Cases::painted_yellow_lem, crate::proofs::Cases::painted_red_lem))]
     fn paint(self, need: u64, drop_eligible: bool) -> Metered
         ensures { result ≡ painted_of self need drop_eligible }
     {
