@@ -1,0 +1,19 @@
+-- `text::put_gates` meets its contract. Assumes nothing.
+use Rattle.std.proofs.Common.{ap, ◌∙◌, arith}
+use Rattle.gate.specs.declared.Gate.{Gate}
+use Rattle.text.specs.Meaning.{page, written, gate_items_of}
+use Rattle.text.specs.Laws.{up_none, up_next}
+use Rattle.text.proofs.put_gates.Invariants.{items}
+use Rattle.text.proofs.put_gates.Goals as goal
+
+pub loop-i-init : goal.loop-i-init
+loop-i-init c = record { below = omega arith; put = up_none _ _ }
+
+pub loop-i-preserved : goal.loop-i-preserved
+loop-i-preserved c =
+    record {
+      below = omega arith;
+      put =
+          up_next (items c.args.bank.now) _ _ _ c.loop-i.i c.loop-i.invariant.put
+          (c.put_gate-next.ensures ∙ ap (λ (v : Gate). written (page c.loop-i.out c.loop-i.next) (gate_items_of c.loop-i.i v)) c.gate_at-g.ensures);
+    }

@@ -1,0 +1,19 @@
+-- `text::put_meters` meets its contract. Assumes nothing.
+use Rattle.std.proofs.Common.{ap, ◌∙◌, arith}
+use Rattle.meter.specs.declared.Meter.{Meter}
+use Rattle.text.specs.Meaning.{page, written, meter_item_of}
+use Rattle.text.specs.Laws.{up_none, up_next}
+use Rattle.text.proofs.put_meters.Invariants.{items}
+use Rattle.text.proofs.put_meters.Goals as goal
+
+pub loop-i-init : goal.loop-i-init
+loop-i-init c = record { below = omega arith; put = up_none _ _ }
+
+pub loop-i-preserved : goal.loop-i-preserved
+loop-i-preserved c =
+    record {
+      below = omega arith;
+      put =
+          up_next (items c.args.bank.now) _ _ _ c.loop-i.i c.loop-i.invariant.put
+          (c.put_meter-next.ensures ∙ ap (λ (v : Meter). written (page c.loop-i.out c.loop-i.next) (meter_item_of c.loop-i.i v)) c.meter_at-m.ensures);
+    }
