@@ -1,7 +1,7 @@
 -- The laws of the tables. For each way of writing: the view of what was written gives it back (`-same`), and what it does not write is
 -- as before for every index (`-keeps-`). For each view: a store into any other row leaves it (`-frame`); that the rows of two
 -- tables are never the same is plain from their numbers.
-use Rattle.std.specs.Prelude.{◌≡◌, ℕ, zero, suc, ◌+◌, ◌*◌, ◌%◌, ◌^◌, ◌<◌, ◌≤◌, min, Bool, true, false, ◌≢◌, List, length, set, slice_index, slice_set, refl}
+use Rattle.std.specs.Prelude.{◌≡◌, ℕ, zero, suc, ◌+◌, ◌*◌, ◌%◌, ◌^◌, ◌<◌, ◌≤◌, min, Bool, true, false, ◌≢◌, List, length, slice_index, slice_set, refl}
 use Rattle.std.proofs.Common.{ap, ◌∙◌, arith}
 use mir.Val.{bool_byte}
 use Rattle.sizes.specs.Meaning.{entry_count, group_count, row_words}

@@ -1,7 +1,7 @@
 -- The bank of words: the rows of eight words that it is read as, which row is whose, and which word of a row is what.
 -- An index is taken modulo the size of its table. A word read as a flag stands where it is not 0; one read into a narrower number is
 -- taken modulo its width. All zeros is a fresh bridge: nothing set up, not started, every counter 0, every flag down.
-use Rattle.std.specs.Prelude.{ℕ, zero, suc, ◌+◌, ◌*◌, ◌%◌, ◌^◌, min, Bool, cond, not, List, [], ◌∷◌, set, ◌==◌, slice_index, slice_set}
+use Rattle.std.specs.Prelude.{ℕ, zero, suc, ◌+◌, ◌*◌, ◌%◌, ◌^◌, min, Bool, cond, not, List, [], ◌∷◌, ◌==◌, slice_index, slice_set}
 use mir.Val.{bool_byte}
 use Rattle.sizes.specs.Meaning.{filter_count, port_count, gate_count, entry_count, meter_count, group_count, scheduler_count, row_words}
 use Rattle.bucket.specs.declared.Rate.{Rate}
