@@ -1,6 +1,3 @@
--- What several proofs cite, and what a crate that holds the table cites of them.
-pub mod Again
-mod Asking
-pub mod Shared
-pub mod SharedRef
-pub mod Table
+pub mod Laws
+pub mod SearchLaws
+pub mod SeekLaws

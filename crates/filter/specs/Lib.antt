@@ -1,4 +1,2 @@
 pub mod Meaning
-pub mod Laws
-pub mod Search
 pub mod Seek

@@ -113,6 +113,7 @@ fn seek(table: &[Filter], q: Question, from: usize) -> usize
 }
 
 // Up to which place of a table of `rows` rows are passed over.
+#[tactic(auto, unfolding(crate::specs::Seek::passable_of))]
 fn passable(q: Question, rows: usize) -> usize
     ensures { result ≡ passable_of q rows }
 {
@@ -131,6 +132,7 @@ fn lesser(n: usize, m: usize) -> usize
     if n < m { n } else { m }
 }
 
+#[tactic(auto, unfolding(crate::specs::Seek::near_of))]
 fn near(row: Filter, handle: u32) -> bool
     ensures { result ≡ near_of handle row }
 {
@@ -161,6 +163,7 @@ pub fn put_row(table: &mut [Filter], place: usize, row: Filter)
 
 // Whether a row is what a question asks for. Whether it counts is asked last: most rows are ruled out before.
 // Ruled out: a row that names a missing gate used by a frame; a row that is no filter holding up start.
+#[tactic(auto, unfolding(crate::specs::Meaning::row_answers))]
 pub fn answers(row: Filter, bank: &Words, q: Question) -> bool
     ensures { result ≡ row_answers (rows_of bank.now) q row }
 {
@@ -182,6 +185,7 @@ pub fn answers(row: Filter, bank: &Words, q: Question) -> bool
 
 // Whether handle and priority of a frame match the row's.
 // Ruled out: any-handle taken for handle 0; priority 8 taken for a priority.
+#[tactic(auto, unfolding(crate::specs::Meaning::fits_of))]
 pub fn fits(row: Filter, key: Key) -> bool
     ensures { result ≡ fits_of key row }
 {
@@ -191,6 +195,7 @@ pub fn fits(row: Filter, key: Key) -> bool
 
 // Whether a row counts after start; any other counts as empty.
 // Ruled out: a row that names a missing meter counting; a max SDU that the burst just holds refused.
+#[tactic(auto, unfolding(crate::specs::Meaning::counts_of))]
 pub fn counts(row: Filter, bank: &Words) -> bool
     ensures { result ≡ counts_of (rows_of bank.now) row }
 {
@@ -199,6 +204,7 @@ pub fn counts(row: Filter, bank: &Words) -> bool
 
 // Whether there is a filter at a place, as the records before start see it.
 // Ruled out: a used row with a field out of range; an unused one.
+#[tactic(auto, unfolding(crate::specs::Meaning::is_filter_of))]
 pub fn is_filter(row: Filter) -> bool
     ensures { result ≡ is_filter_of row }
 {
@@ -223,6 +229,7 @@ pub fn empty() -> Filter
     }
 }
 
+#[tactic(auto, unfolding(crate::specs::Meaning::row_in_range))]
 fn in_range(row: Filter) -> bool
     ensures { result ≡ row_in_range row }
 {
@@ -237,6 +244,7 @@ fn in_range(row: Filter) -> bool
 }
 
 // 01, refusal 7.
+#[tactic(auto, unfolding(crate::specs::Meaning::names_missing))]
 fn missing(row: Filter, bank: &Words) -> bool
     ensures { result ≡ names_missing (rows_of bank.now) row }
 {
@@ -246,6 +254,7 @@ fn missing(row: Filter, bank: &Words) -> bool
 }
 
 // 01, refusal 8.
+#[tactic(auto, unfolding(crate::specs::Meaning::exceeds_burst))]
 fn exceeds_burst(row: Filter, bank: &Words) -> bool
     ensures { result ≡ exceeds_burst (rows_of bank.now) row }
 {

@@ -11,7 +11,7 @@ use Rattle.filter.specs.declared.Asks.TheVariants.{Fits, Any}
 use Rattle.filter.specs.declared.Question.{Question}
 use Rattle.filter.specs.declared.Found.TheVariants.{Nothing, At}
 use Rattle.filter.specs.Meaning.{no_row, is_filter_of, counts_of, row_of, row_answers, first_found, search_from, search_of}
-use Rattle.filter.specs.Laws.{SameParts, Asking, answers_asked, answers_same, answers_empty, answers_spoiled, answers_no_filter}
+use Rattle.filter.proofs.Laws.{SameParts, Asking, answers_asked, answers_same, answers_empty, answers_spoiled, answers_no_filter}
 
 -- ---- the first row that passes a test
 
