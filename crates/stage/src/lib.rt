@@ -173,6 +173,7 @@ fn no_key() -> Key
 }
 
 // All that a call does but for the table: `miss` and `hit` are what the two searches found.
+#[tactic(auto, unfolding(crate::specs::Plan::decided_of))]
 fn decide(
     bank: &mut Words,
     lists: &mut Lists,
@@ -190,6 +191,7 @@ fn decide(
     }
 }
 
+#[tactic(auto, unfolding(crate::specs::Plan::taken_by, record::specs::Meaning::body_of))]
 fn handle(
     bank: &mut Words,
     lists: &mut Lists,
@@ -229,6 +231,7 @@ fn row_in(found: Found) -> Filter
 }
 
 // A filter's record: its row is stored where the place is empty.
+#[tactic(auto, unfolding(crate::specs::Plan::placed_of))]
 fn place(r: FilterRecord, used: usize, row: Filter) -> Done
     ensures { result ≡ placed_of r used row }
 {
