@@ -30,6 +30,14 @@ module _ (before after : List ℕ) (kept at : ℕ) (e : at ≡ min kept (length 
   pub fills_some : (n : ℕ) → take at after ≡ take at before → take (at + n) after ≡ take kept before ++ take n (drop at after)
   fills_some n front = take-add at n after ∙ ap (λ (xs : List ℕ). xs ++ take n (drop at after)) (front ∙ take_within kept before at e)
 
+  -- what a read has put behind them
+  pub fills_read : (n end : ℕ) (new post : List ℕ) → end ≡ at + n → n ≤ length new → after ≡ take at before ++ (new ++ post) → Fills before kept after end
+  fills_read n end new post sum within is = record {
+    read = take n (drop at after);
+    there = ap (λ (k : ℕ). take k after) sum ∙ fills_some n (ap (take at) is ∙ take-append-le at (take at before) (new ++ post) (omega (arith, length-take at before, e)) ∙ take-take at at before (omega arith));
+    within = omega (arith, e, ap length is, length-append (take at before) (new ++ post), length-append new post, length-take at before);
+  }
+
 -- what is kept stays where it is
 module _ (before after : List ℕ) (kept end : ℕ) (f : Fills before kept after end) (l : kept ≤ length before) where
   pub kept_below : kept ≤ end

@@ -1,13 +1,8 @@
 -- A list whose first i places have the first i of those that stood from `from` to `end`, and whose other places are as they were.
 -- Assumes nothing.
-use mathlib.Core.Path.{◌≡◌, sym, ap, ◌∙◌}
-use mathlib.Core.List.{List, ◌++◌}
-use Prim.Native.Nat.{ℕ, ◌+◌, ◌-◌, ◌<◌, min}
-use native.Mathlib.Nat.{zero-add, add_comm}
-use native.Mathlib.Numerals.{add-one}
-use native.Mathlib.Omega.{arith}
-use lib.ListN.{length, get_or, set, take, drop, length-take, length-drop}
-use lib.Seq.{slice, take-length, get_or-append-add, get_or-drop, get_or-take, paste-suc}
+use Rattle.std.specs.Prelude.{◌≡◌, ℕ, ◌+◌, ◌-◌, ◌<◌, min, List, ◌++◌, length, get_or, set, take, drop}
+use Rattle.std.proofs.Common.{sym, ap, ◌∙◌, zero-add, add_comm, add-one, arith, length-take, length-drop}
+use Rattle.std.proofs.Math.Seq.{slice, take-length, get_or-append-add, get_or-drop, get_or-take, paste-suc}
 use Rattle.pieces.specs.Meaning.{Kept, kept_of}
 
 module _ (xs : List ℕ) (from end : ℕ) where

@@ -6,6 +6,8 @@ ghost use Rattle.std.specs.Prelude.{◌≡◌, ◌≤◌, ◌-◌, min, length};
 ghost use Rattle.text.specs.Meaning.{page, written};
 ghost use Rattle.pieces.specs.Meaning.{Kept, kept_of, Fills, complaint_of};
 
+use std::io::{Read, Write};
+
 // What the system has failed to do, if anything.
 #[derive(Clone, Copy)]
 pub enum Failure {
@@ -23,7 +25,7 @@ pub struct Filled {
 
 // Reads once where the octets that are kept do not suffice (`starved`), behind them.
 // Ruled out: the octets that are kept overwritten; what was read taken for all that is there.
-pub fn fill(buf: &mut [u8], kept: usize, starved: bool) -> Filled
+pub fn fill<R: Read>(input: &mut R, buf: &mut [u8], kept: usize, starved: bool) -> Filled
     ensures { Fills buf.old kept buf.new result.end }
 {
     let at = least(kept, buf.len());
@@ -33,11 +35,15 @@ pub fn fill(buf: &mut [u8], kept: usize, starved: bool) -> Filled
             failed: false,
         };
     }
-    let got = libc::read(libc::STDIN_FILENO, &mut buf[at..]);
-    let n = io::count(got, &buf[at..]);
-    Filled {
-        end: at + n,
-        failed: got < 0,
+    match input.read(&mut buf[at..]) {
+        Ok(n) => Filled {
+            end: at + n,
+            failed: false,
+        },
+        Err(_) => Filled {
+            end: at,
+            failed: true,
+        },
     }
 }
 
@@ -56,17 +62,27 @@ pub fn keep(buf: &mut [u8], from: usize, end: usize) -> usize
     n
 }
 
-// Writes the first `filled` octets, as far as the buffer goes, to standard output, and answers whether all of them are written.
-pub fn write(out: &[u8], filled: usize) -> bool {
-    put(libc::STDOUT_FILENO, out, filled)
+// Writes the first `filled` octets, as far as the buffer goes, and answers whether all of them are written.
+// It stops at the first write that fails or takes nothing.
+pub fn write<W: Write>(output: &mut W, out: &[u8], filled: usize) -> bool {
+    let n = least(filled, out.len());
+    let mut done = 0;
+    while done < n {
+        match output.write(&out[done..n]) {
+            Ok(0) => return false,
+            Ok(more) => done += more,
+            Err(_) => return false,
+        }
+    }
+    true
 }
 
-// Says on standard error what has failed; nothing where nothing has.
+// Says what has failed; nothing where nothing has.
 // Ruled out, in what is put into the buffer: the other stream named; the program not named.
-pub fn complain(program: &[u8], failure: Failure) -> bool {
-    let mut out = io::buffer();
+pub fn complain<W: Write>(errors: &mut W, program: &[u8], failure: Failure) -> bool {
+    let mut out = [0u8; 4096];
     let n = complaint(&mut out, program, failure);
-    put(libc::STDERR_FILENO, &out, n)
+    write(errors, &out, n)
 }
 
 fn complaint(out: &mut [u8], program: &[u8], failure: Failure) -> usize
@@ -83,11 +99,6 @@ fn complaint(out: &mut [u8], program: &[u8], failure: Failure) -> usize
             text::put_octets(out, n, b": standard output cannot be written\n")
         }
     }
-}
-
-fn put(fd: i32, out: &[u8], filled: usize) -> bool {
-    let n = least(filled, out.len());
-    io::write_all(fd, &out[..n])
 }
 
 fn least(a: usize, b: usize) -> usize
