@@ -21,7 +21,7 @@ use Rattle.filter.specs.declared.Found.{Found}
 use Rattle.filter.specs.declared.Found.TheVariants.{Nothing, At}
 use Rattle.filter.specs.declared.Asks.TheVariants.{Fits}
 use Rattle.filter.specs.Meaning.{counts_of}
-use Rattle.filter.specs.Search.{search_finds}
+use Rattle.filter.proofs.SearchLaws.{search_finds}
 use Rattle.verdict.specs.declared.Verdict.{Verdict}
 use Rattle.verdict.specs.declared.Verdict.TheVariants.{Refused, Taken, Passed, Dropped}
 use Rattle.verdict.specs.Meaning.{Told, told}

@@ -21,8 +21,8 @@ use Rattle.filter.specs.declared.Found.TheVariants.{At}
 use Rattle.filter.specs.declared.Asks.TheVariants.{Fits, Missing, ExceedsBurst}
 use Rattle.filter.specs.declared.Question.{Question}
 use Rattle.filter.specs.Meaning.{counts_of, fits_of, search_of}
-use Rattle.filter.specs.Laws.{answers_asked, counts_meter}
-use Rattle.filter.specs.Search.{search_finds}
+use Rattle.filter.proofs.Laws.{answers_asked, counts_meter}
+use Rattle.filter.proofs.SearchLaws.{search_finds}
 use Rattle.verdict.specs.Meaning.{Told}
 use Rattle.setup.specs.Meaning.{set_port_of, set_gate_of, add_entry_of, set_meter_of, set_group_of, set_scheduler_of, start_of, red_low, clear_oversize_of, clear_invalid_receive_of, clear_octets_of, clear_red_of, clear_of}
 use Rattle.setup.proofs.Cases.{refused_by, clear_by_lem}

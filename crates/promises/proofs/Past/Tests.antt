@@ -18,8 +18,8 @@ use Rattle.filter.specs.declared.Question.{Question}
 use Rattle.filter.specs.declared.Found.{Found}
 use Rattle.filter.specs.declared.Found.TheVariants.{Nothing, At}
 use Rattle.filter.specs.Meaning.{is_filter_of, names_missing, exceeds_burst, counts_of, row_of, row_answers, search_of, is_found}
-use Rattle.filter.specs.Laws.{filter_in_range, answers_asked}
-use Rattle.filter.specs.Search.{search_finds, search_nothing}
+use Rattle.filter.proofs.Laws.{filter_in_range, answers_asked}
+use Rattle.filter.proofs.SearchLaws.{search_finds, search_nothing}
 use Rattle.setup.specs.Meaning.{some_of, stray_of, groupless_of, incomplete_of}
 use Rattle.stage.specs.Meaning.{Bridge, filter_of, no_key, first_row}
 use Rattle.promises.specs.Past.Meaning.{of_it, is_there, Known, group_named, lacks_part, lacks_gate, lacks_group, lacks_any, over_burst}

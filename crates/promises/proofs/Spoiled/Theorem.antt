@@ -23,7 +23,7 @@ use Rattle.filter.specs.declared.Filter.{Filter}
 use Rattle.filter.specs.declared.Asks.TheVariants.{Fits, Missing, ExceedsBurst}
 use Rattle.filter.specs.declared.Found.{Found}
 use Rattle.filter.specs.Meaning.{no_row, is_filter_of, counts_of, row_of}
-use Rattle.filter.specs.Search.{search_spoiled, search_no_filter}
+use Rattle.filter.proofs.SearchLaws.{search_spoiled, search_no_filter}
 use Rattle.verdict.specs.declared.Verdict.TheVariants.{Taken}
 use Rattle.verdict.specs.declared.Answer.{Answer}
 use Rattle.verdict.specs.Meaning.{Told}
