@@ -22,6 +22,7 @@ use verdict::Verdict;
 
 // Kind 1.
 // Ruled out: a second record for a port that overwrites the first; the largest overhead replaced by a smaller one.
+#[tactic(auto, unfolding(crate::specs::Meaning::set_port_of, crate::specs::Meaning::refused_if))]
 pub fn set_port(bank: &mut Words, r: PortRecord) -> Verdict
     ensures { told (rows_of bank.new) result ≡ set_port_of (rows_of bank.old) r }
 {
@@ -46,6 +47,7 @@ pub fn set_port(bank: &mut Words, r: PortRecord) -> Verdict
 
 // Kind 3.
 // Ruled out: a second record for a gate taken; a closed gate set up open because octets block is set.
+#[tactic(auto, unfolding(crate::specs::Meaning::set_gate_of, crate::specs::Meaning::refused_if))]
 pub fn set_gate(bank: &mut Words, r: GateRecord) -> Verdict
     ensures { told (rows_of bank.new) result ≡ set_gate_of (rows_of bank.old) r }
 {
@@ -67,6 +69,7 @@ pub fn set_gate(bank: &mut Words, r: GateRecord) -> Verdict
 
 // Kind 4: `body` is that of the record `r`, as `record::body` shows it. It is kept in the gate's list as it came.
 // Ruled out: a ninth entry taken; an entry kept in the list of another gate.
+#[tactic(auto, unfolding(crate::specs::Meaning::add_entry_of))]
 pub fn add_entry(bank: &mut Words, lists: &mut Lists, body: &[u8], r: GateEntryRecord) -> Verdict
     ensures { listed (rows_of bank.new) lists.new result ≡ add_entry_of (rows_of bank.old) lists.old body.now r }
 {
@@ -87,6 +90,7 @@ pub fn add_entry(bank: &mut Words, lists: &mut Lists, body: &[u8], r: GateEntryR
 
 // Kind 5.
 // Ruled out: a second record that fills the buckets again; drop on yellow taken for the red block.
+#[tactic(auto, unfolding(crate::specs::Meaning::set_meter_of, crate::specs::Meaning::refused_if))]
 pub fn set_meter(bank: &mut Words, r: MeterRecord) -> Verdict
     ensures { told (rows_of bank.new) result ≡ set_meter_of (rows_of bank.old) r }
 {
@@ -114,6 +118,7 @@ pub fn set_meter(bank: &mut Words, r: MeterRecord) -> Verdict
 
 // Kind 6.
 // Ruled out: a second record for a group taken; a group whose last time is its residence.
+#[tactic(auto, unfolding(crate::specs::Meaning::set_group_of, crate::specs::Meaning::refused_if))]
 pub fn set_group(bank: &mut Words, r: GroupRecord) -> Verdict
     ensures { told (rows_of bank.new) result ≡ set_group_of (rows_of bank.old) r }
 {
@@ -136,6 +141,7 @@ pub fn set_group(bank: &mut Words, r: GroupRecord) -> Verdict
 
 // Kind 7.
 // Ruled out: a bucket that starts empty; a scheduler put into the group of its own number.
+#[tactic(auto, unfolding(crate::specs::Meaning::set_scheduler_of, crate::specs::Meaning::refused_if))]
 pub fn set_scheduler(bank: &mut Words, r: SchedulerRecord) -> Verdict
     ensures { told (rows_of bank.new) result ≡ set_scheduler_of (rows_of bank.old) r }
 {
@@ -151,6 +157,7 @@ pub fn set_scheduler(bank: &mut Words, r: SchedulerRecord) -> Verdict
 
 // Kind 8. `missing` is the first filter that names what is missing, `exceeding` the first that exceeds its scheduler's burst.
 // Ruled out: 8 given where something is missing, too; a refused start after which the bridge has started.
+#[tactic(auto, unfolding(crate::specs::Meaning::start_of, crate::specs::Meaning::refused_if))]
 pub fn start(bank: &mut Words, r: StartRecord, missing: Found, exceeding: Found) -> Verdict
     ensures { told (rows_of bank.new) result ≡ start_of (rows_of bank.old) r missing exceeding }
 {
@@ -166,6 +173,7 @@ pub fn start(bank: &mut Words, r: StartRecord, missing: Found, exceeding: Found)
 
 // Kind 10. `row` is the row of the filter table at the place that the record names.
 // Ruled out: a clear of one gate flag that takes down the other; a flag cleared at a place that counts as empty.
+#[tactic(auto, unfolding(crate::specs::Meaning::clear_of))]
 pub fn clear(bank: &mut Words, r: ClearRecord, row: Filter) -> Verdict
     ensures { told (rows_of bank.new) result ≡ clear_of (rows_of bank.old) r row }
 {
@@ -180,6 +188,7 @@ pub fn clear(bank: &mut Words, r: ClearRecord, row: Filter) -> Verdict
     }
 }
 
+#[tactic(auto, unfolding(crate::specs::Meaning::clear_oversize_of, crate::specs::Meaning::refused_if))]
 fn clear_oversize(bank: &mut Words, i: usize, row: Filter) -> Verdict
     ensures { told (rows_of bank.new) result ≡ clear_oversize_of (rows_of bank.old) i row }
 {
@@ -190,6 +199,7 @@ fn clear_oversize(bank: &mut Words, i: usize, row: Filter) -> Verdict
     Verdict::Taken
 }
 
+#[tactic(auto, unfolding(crate::specs::Meaning::clear_invalid_receive_of, crate::specs::Meaning::refused_if))]
 fn clear_invalid_receive(bank: &mut Words, i: usize) -> Verdict
     ensures { told (rows_of bank.new) result ≡ clear_invalid_receive_of (rows_of bank.old) i }
 {
@@ -202,6 +212,7 @@ fn clear_invalid_receive(bank: &mut Words, i: usize) -> Verdict
     Verdict::Taken
 }
 
+#[tactic(auto, unfolding(crate::specs::Meaning::clear_octets_of, crate::specs::Meaning::refused_if))]
 fn clear_octets(bank: &mut Words, i: usize) -> Verdict
     ensures { told (rows_of bank.new) result ≡ clear_octets_of (rows_of bank.old) i }
 {
@@ -214,6 +225,7 @@ fn clear_octets(bank: &mut Words, i: usize) -> Verdict
     Verdict::Taken
 }
 
+#[tactic(auto, unfolding(crate::specs::Meaning::clear_red_of, crate::specs::Meaning::refused_if))]
 fn clear_red(bank: &mut Words, i: usize) -> Verdict
     ensures { told (rows_of bank.new) result ≡ clear_red_of (rows_of bank.old) i }
 {
