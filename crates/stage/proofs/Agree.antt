@@ -16,7 +16,7 @@ use Rattle.bank.specs.Meaning.{Rows}
 use Rattle.filter.specs.declared.Filter.{Filter}
 use Rattle.filter.specs.declared.Found.{Found}
 use Rattle.filter.specs.Meaning.{is_filter_of, no_row, row_of, search_of}
-use Rattle.filter.specs.Search.{search_one}
+use Rattle.filter.proofs.SearchLaws.{search_one}
 use Rattle.verdict.specs.declared.Verdict.{Verdict}
 use Rattle.verdict.specs.declared.Verdict.TheVariants.{Refused, Taken, Passed, Dropped}
 use Rattle.verdict.specs.declared.Answer.{Answer}
