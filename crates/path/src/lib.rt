@@ -159,6 +159,7 @@ fn schedule(bank: &mut Words, a: ArrivalRecord, row: Filter, priority: u8, mark:
 }
 
 // A pass, with what it carries.
+#[tactic(auto, unfolding(crate::specs::Meaning::pass_of))]
 fn pass(bank: &Words, priority: u8, mark: u8, timed: bool, at: u64) -> Verdict
     ensures { result ≡ pass_of (rows_of bank.now) priority mark timed at }
 {
@@ -196,6 +197,7 @@ fn charged(bank: &Words, a: ArrivalRecord) -> Octets
     frame::length(a.msdu, p.overhead)
 }
 
+#[tactic(auto, unfolding(crate::specs::Meaning::discard_counted))]
 fn discard(bank: &mut Words, i: usize)
     ensures { rows_of bank.new ≡ discard_counted (rows_of bank.old) i }
 {
@@ -203,6 +205,7 @@ fn discard(bank: &mut Words, i: usize)
     bank::put_discarded(bank, i, std::num::wrapping_add_u64(p.discarded, 1));
 }
 
+#[tactic(auto, unfolding(crate::specs::Meaning::sdu_passed))]
 fn count_sdu_passed(bank: &mut Words, f: usize)
     ensures { rows_of bank.new ≡ sdu_passed (rows_of bank.old) f }
 {
@@ -210,6 +213,7 @@ fn count_sdu_passed(bank: &mut Words, f: usize)
     bank::count(bank, f, Counter::PassingSdu);
 }
 
+#[tactic(auto, unfolding(crate::specs::Meaning::sdu_failed))]
 fn count_sdu_failed(bank: &mut Words, f: usize, flag: bool)
     ensures { rows_of bank.new ≡ sdu_failed (rows_of bank.old) f flag }
 {
@@ -218,18 +222,21 @@ fn count_sdu_failed(bank: &mut Words, f: usize, flag: bool)
     bank::put_oversize(bank, f, flag);
 }
 
+#[tactic(auto, unfolding(crate::specs::Meaning::gate_passed))]
 fn count_gate_passed(bank: &mut Words, f: usize)
     ensures { rows_of bank.new ≡ gate_passed (rows_of bank.old) f }
 {
     bank::count(bank, f, Counter::Passing);
 }
 
+#[tactic(auto, unfolding(crate::specs::Meaning::gate_failed))]
 fn count_gate_failed(bank: &mut Words, f: usize)
     ensures { rows_of bank.new ≡ gate_failed (rows_of bank.old) f }
 {
     bank::count(bank, f, Counter::NotPassing);
 }
 
+#[tactic(auto, unfolding(crate::specs::Meaning::red_counted))]
 fn count_red(bank: &mut Words, f: usize)
     ensures { rows_of bank.new ≡ red_counted (rows_of bank.old) f }
 {
