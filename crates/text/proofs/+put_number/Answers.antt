@@ -1,14 +1,11 @@
 -- `text::put_number` meets its contract, by one digit, by two, and by a hundredth of the number and two digits. Assumes nothing.
 use Rattle.std.proofs.Common.{sym, ap, ◌∙◌, arith}
 use Rattle.text.specs.Meaning.{written}
-use Rattle.text.specs.Laws.{written_one, written_then, digits_one, digits_two, digits_pair}
+use Rattle.text.specs.Laws.{written_one, written_then, digits_one, digits_pair}
 use Rattle.text.proofs.+put_number.Goals as goal
 
 pub returns-then-n-lt10 : goal.returns-then-n-lt10
 returns-then-n-lt10 t c = written_one _ _ _ c.put_octet.ensures ∙ ap (written _) (sym (digits_one c.args.n (omega arith)))
-
-pub returns-then-n-lt100 : goal.returns-then-n-lt100
-returns-then-n-lt100 t c = c.put_pair.ensures ∙ ap (written _) (sym (digits_two c.args.n (omega arith) (omega arith)))
 
 pub returns : goal.returns
 returns t c =
