@@ -2,9 +2,10 @@
 
 #![tactic(auto)]
 
-fn main() {
+fn main(rt: HostRuntime) {
     let mut bank = [0u64; bank::WORDS];
     let mut lists = [0u8; sizes::LISTS];
-    let d = stream::drain(&mut bank, &mut lists, false);
-    stream::close(b"ingress", d);
+    let mut output = rt.stdout();
+    let d = stream::drain(&mut rt.stdin(), &mut output, &mut bank, &mut lists, false);
+    stream::close(&mut output, &mut rt.stderr(), b"ingress", d);
 }

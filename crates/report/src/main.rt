@@ -2,10 +2,11 @@
 
 #![tactic(auto)]
 
-fn main() {
+fn main(rt: HostRuntime) {
     let mut bank = [0u64; bank::WORDS];
     let mut lists = [0u8; sizes::LISTS];
-    let drained = stream::drain(&mut bank, &mut lists, true);
-    let reported = stream::report(&bank, drained);
-    stream::close(b"report", reported);
+    let mut output = rt.stdout();
+    let drained = stream::drain(&mut rt.stdin(), &mut output, &mut bank, &mut lists, true);
+    let reported = stream::report(&mut output, &bank, drained);
+    stream::close(&mut output, &mut rt.stderr(), b"report", reported);
 }

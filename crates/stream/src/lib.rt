@@ -13,6 +13,7 @@ use bank::{Lists, Words};
 use filter::Filter;
 use pieces::Failure;
 use run::Progress;
+use std::io::{Read, Write};
 
 // How a stream ended.
 #[derive(Clone, Copy)]
@@ -37,14 +38,20 @@ struct State {
     failure: Failure,
 }
 
-// Everything that standard input has, from an empty table on; `quiet` where no line is to be written for an arrival.
+// Everything that `input` has, from an empty table on, its lines to `output`; `quiet` where no line is to be written for an arrival.
 // Ruled out: the end told where octets are left; the octets told for the records.
-pub fn drain(bank: &mut Words, lists: &mut Lists, quiet: bool) -> Drained
+pub fn drain<R: Read, W: Write>(
+    input: &mut R,
+    output: &mut W,
+    bank: &mut Words,
+    lists: &mut Lists,
+    quiet: bool,
+) -> Drained
     ensures { Drains (rows_of bank.old) lists.old (rows_of bank.new) lists.new result }
 {
-    let mut buf = io::large_buffer();
+    let mut buf = [0u8; 65536];
     let mut out = [0u8; 204800];
-    let s = pieces(bank, lists, &mut buf, &mut out, quiet);
+    let s = pieces(input, output, bank, lists, &mut buf, &mut out, quiet);
     let p = s.progress;
     let failure = s.failure;
     Drained {
@@ -57,14 +64,14 @@ pub fn drain(bank: &mut Words, lists: &mut Lists, quiet: bool) -> Drained
 
 // What an operator looks at, unless something has failed.
 // Ruled out: a refusal forgotten; another count where the report cannot be written.
-pub fn report(bank: &Words, d: Drained) -> Drained
+pub fn report<W: Write>(output: &mut W, bank: &Words, d: Drained) -> Drained
     ensures { Reported d result }
 {
     let failure = d.failure;
     if let Failure::Nothing = failure {
-        let mut out = io::large_buffer();
+        let mut out = [0u8; 65536];
         let n = text::put_report(&mut out, 0, bank);
-        if pieces::write(&out, n) {
+        if pieces::write(output, &out, n) {
             return d;
         }
         return Drained {
@@ -77,16 +84,16 @@ pub fn report(bank: &Words, d: Drained) -> Drained
     d
 }
 
-// The last line; or what has failed, on standard error.
+// The last line; or what has failed, to `errors`.
 // Ruled out, in what is put into the buffer: an end told where a read has failed; refusal 1 told as the end.
-pub fn close(program: &[u8], d: Drained) {
-    let mut out = io::buffer();
+pub fn close<W: Write, E: Write>(output: &mut W, errors: &mut E, program: &[u8], d: Drained) {
+    let mut out = [0u8; 4096];
     let n = last_line(&mut out, d);
     let failure = d.failure;
-    if pieces::write(&out, n) {
-        pieces::complain(program, failure);
+    if pieces::write(output, &out, n) {
+        pieces::complain(errors, program, failure);
     } else {
-        pieces::complain(program, Failure::Output);
+        pieces::complain(errors, program, Failure::Output);
     }
 }
 
@@ -112,6 +119,7 @@ fn put_last(out: &mut [u8], d: Drained) -> usize
 }
 
 // A body cut short, where no octet is left, is no refusal but the end.
+#[tactic(auto, unfolding(crate::specs::Meaning::ended_of))]
 fn ended(refusal: u8, kept: usize) -> u8
     ensures { result ≡ ended_of refusal kept }
 {
@@ -131,7 +139,15 @@ fn last_failure(more: bool, failure: Failure) -> Failure
     failure
 }
 
-fn pieces(bank: &mut Words, lists: &mut Lists, buf: &mut [u8], out: &mut [u8], quiet: bool) -> State
+fn pieces<R: Read, W: Write>(
+    input: &mut R,
+    output: &mut W,
+    bank: &mut Words,
+    lists: &mut Lists,
+    buf: &mut [u8],
+    out: &mut [u8],
+    quiet: bool,
+) -> State
     ensures { Stands (bridge empty_table (rows_of bank.old) lists.old) result (rows_of bank.new) lists.new buf.new }
 {
     let none = filter::empty();
@@ -146,21 +162,29 @@ fn pieces(bank: &mut Words, lists: &mut Lists, buf: &mut [u8], out: &mut [u8], q
     };
     let mut turns = u64::MAX;
     while turns > 0 && s.more {
-        s = piece(s, bank, lists, buf, out);
+        s = piece(input, output, s, bank, lists, buf, out);
         turns -= 1;
     }
     s
 }
 
 // One piece: read where a record is cut or no octet is left, run, keep what is not whole, write.
-fn piece(s: State, bank: &mut Words, lists: &mut Lists, buf: &mut [u8], out: &mut [u8]) -> State
+fn piece<R: Read, W: Write>(
+    input: &mut R,
+    output: &mut W,
+    s: State,
+    bank: &mut Words,
+    lists: &mut Lists,
+    buf: &mut [u8],
+    out: &mut [u8],
+) -> State
     ensures { (b : Bridge) → Stands b s (rows_of bank.old) lists.old buf.old → Stands b result (rows_of bank.new) lists.new buf.new }
 {
     let kept = s.kept;
     let table = s.table;
     let before = s.progress;
     let starved = (before.refusal > 0) | (kept == 0);
-    let filled = pieces::fill(buf, kept, starved);
+    let filled = pieces::fill(input, buf, kept, starved);
     let end = filled.end;
     if filled.failed {
         return State {
@@ -187,7 +211,7 @@ fn piece(s: State, bank: &mut Words, lists: &mut Lists, buf: &mut [u8], out: &mu
     let next = c.table;
     let p = c.progress;
     let left = pieces::keep(buf, p.at, end);
-    let is_written = pieces::write(out, p.filled);
+    let is_written = pieces::write(output, out, p.filled);
     State {
         table: next,
         kept: left,
