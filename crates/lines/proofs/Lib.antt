@@ -1,1 +1,4 @@
+pub mod Form
+pub mod Laws
+pub mod Room
 pub mod Worked

@@ -1,4 +1,3 @@
 pub mod Meaning
 pub mod Form
-pub mod Laws
 pub mod Room

@@ -144,6 +144,7 @@ fn room(places: usize, filled: usize) -> bool
 }
 
 // The answer to a record is told, and the run is one record further.
+#[tactic(auto, unfolding(crate::specs::Meaning::printed_by))]
 fn tell(out: &mut [u8], p: Progress, answer: Answer) -> Progress
     ensures { printed out.new result ≡ printed_of out.old p answer }
 {
@@ -157,6 +158,7 @@ fn tell(out: &mut [u8], p: Progress, answer: Answer) -> Progress
     }
 }
 
+#[tactic(auto, unfolding(crate::specs::Meaning::printed_by))]
 fn tell_pass(out: &mut [u8], p: Progress, used: usize, pass: Pass) -> Progress
     ensures { printed out.new result ≡ printed_by out.old p used (Verdict.Passed pass) }
 {
@@ -169,6 +171,7 @@ fn tell_pass(out: &mut [u8], p: Progress, used: usize, pass: Pass) -> Progress
     advance(p, used, arrival, filled, places)
 }
 
+#[tactic(auto, unfolding(crate::specs::Meaning::printed_by))]
 fn tell_drop(out: &mut [u8], p: Progress, used: usize, d: Drop) -> Progress
     ensures { printed out.new result ≡ printed_by out.old p used (Verdict.Dropped d) }
 {

@@ -1,4 +1,4 @@
-// What a C program links: the whole stage as one call, and the counters and flags by name. include/transomrib.h declares it.
+// What a C program links, as a library: the whole stage as one call, and the counters and flags by name. `transomrib_c` exports the two, and include/transomrib.h declares them.
 #![tactic(auto)]
 
 ghost use Rattle.std.specs.Prelude.{◌≡◌};
@@ -36,8 +36,7 @@ pub struct Reply {
 
 // One record of `input`, as `stage::take` takes it.
 // Ruled out: a drop reported as a refusal of the same number; an answer to a record that leaves the bank as it was.
-#[unsafe(no_mangle)]
-pub extern "C" fn transomrib_take(
+pub fn transomrib_take(
     table: &mut [Filter],
     bank: &mut Words,
     lists: &mut Lists,
@@ -93,8 +92,7 @@ fn short(used: u64, verdict: u8, number: u8) -> Reply
 
 // One counter, or a flag as 0 or 1: `what` names it (specs/Meaning.antt), `index` says whose.
 // Ruled out: the counter of filter 0 for an index past the table; PassingFrames for NotPassingFrames.
-#[unsafe(no_mangle)]
-pub extern "C" fn transomrib_read(bank: &Words, what: u32, index: u32) -> u64
+pub fn transomrib_read(bank: &Words, what: u32, index: u32) -> u64
     ensures { result ≡ named_of (rows_of bank.now) what index }
 {
     let i = index as usize;
@@ -108,6 +106,7 @@ pub extern "C" fn transomrib_read(bank: &Words, what: u32, index: u32) -> u64
     )
 }
 
+#[tactic(auto, unfolding(crate::specs::Meaning::chosen_of))]
 fn choose(what: u32, i: usize, c: Counters, g: Gate, m: Meter, p: Port) -> u64
     ensures { result ≡ chosen_of what i c g m p }
 {
