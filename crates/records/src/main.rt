@@ -8,6 +8,7 @@ ghost use Rattle.records.specs.Room.{half, HasRoom};
 
 use pieces::Failure;
 use record::{Reading, Record, Refusal};
+use std::io::{Read, Write};
 
 // Half of the buffer of the output.
 const HALF: usize = 32_768;
@@ -104,7 +105,7 @@ fn step(input: &[u8], last: bool, p: Progress, out: &mut [u8]) -> Progress
 }
 
 // The output is written once half of its buffer is filled. Where that fails nothing more is read.
-fn emptied(p: Progress, out: &[u8]) -> Progress
+fn emptied<W: Write>(output: &mut W, p: Progress, out: &[u8]) -> Progress
     ensures at_value { result.at ≡ p.at }
     ensures filled_lt_half { result.filled < half }
 {
@@ -112,7 +113,7 @@ fn emptied(p: Progress, out: &[u8]) -> Progress
         return p;
     }
     let failure = p.failure;
-    if pieces::write(out, p.filled) {
+    if pieces::write(output, out, p.filled) {
         return Progress {
             at: p.at,
             offset: p.offset,
@@ -135,7 +136,13 @@ fn emptied(p: Progress, out: &[u8]) -> Progress
 }
 
 // Every record that is whole in this piece.
-fn print_piece(input: &[u8], last: bool, p: Progress, out: &mut [u8]) -> Progress
+fn print_piece<W: Write>(
+    output: &mut W,
+    input: &[u8],
+    last: bool,
+    p: Progress,
+    out: &mut [u8],
+) -> Progress
     requires at_in_bounds { p.at ≤ length input.now }
     requires filled_lt_half { p.filled < half }
     requires has_room { HasRoom out.old half }
@@ -145,20 +152,26 @@ fn print_piece(input: &[u8], last: bool, p: Progress, out: &mut [u8]) -> Progres
     let mut s = p;
     let mut turns = input.len();
     while turns > 0 && s.more {
-        s = emptied(step(input, last, s, out), out);
+        s = emptied(output, step(input, last, s, out), out);
         turns -= 1;
     }
     s
 }
 
 // One piece: read, print, keep what is not whole at the front.
-fn turn(p: Progress, buf: &mut [u8], out: &mut [u8]) -> Progress
+fn turn<R: Read, W: Write>(
+    input: &mut R,
+    output: &mut W,
+    p: Progress,
+    buf: &mut [u8],
+    out: &mut [u8],
+) -> Progress
     requires filled_lt_half { p.filled < half }
     requires has_room { HasRoom out.old half }
     ensures { result.filled < half }
 {
     let kept = p.at;
-    let filled = pieces::fill(buf, kept, true);
+    let filled = pieces::fill(input, buf, kept, true);
     let end = filled.end;
     if filled.failed {
         return Progress {
@@ -180,7 +193,7 @@ fn turn(p: Progress, buf: &mut [u8], out: &mut [u8]) -> Progress
         ended: false,
         failure: Failure::Nothing,
     };
-    let to = print_piece(&buf[..end], end <= kept, from, out);
+    let to = print_piece(output, &buf[..end], end <= kept, from, out);
     let left = pieces::keep(buf, to.at, end);
     let failure = to.failure;
     Progress {
@@ -194,8 +207,13 @@ fn turn(p: Progress, buf: &mut [u8], out: &mut [u8]) -> Progress
     }
 }
 
-// All of standard input. What is printed of the records before a read that fails is written.
-fn print_all(buf: &mut [u8], out: &mut [u8]) -> Failure
+// All of `input`. What is printed of the records before a read that fails is written.
+fn print_all<R: Read, W: Write>(
+    input: &mut R,
+    output: &mut W,
+    buf: &mut [u8],
+    out: &mut [u8],
+) -> Failure
     requires { HasRoom out.old half }
 {
     let mut p = Progress {
@@ -209,19 +227,19 @@ fn print_all(buf: &mut [u8], out: &mut [u8]) -> Failure
     };
     let mut turns = u64::MAX;
     while turns > 0 && !p.ended {
-        p = turn(p, buf, out);
+        p = turn(input, output, p, buf, out);
         turns -= 1;
     }
     let failure = p.failure;
-    if pieces::write(out, p.filled) {
+    if pieces::write(output, out, p.filled) {
         return failure;
     }
     Failure::Output
 }
 
-fn main() {
-    let mut buf = io::large_buffer();
-    let mut out = io::large_buffer();
-    let failure = print_all(&mut buf, &mut out);
-    pieces::complain(b"records", failure);
+fn main(rt: HostRuntime) {
+    let mut buf = [0u8; 65536];
+    let mut out = [0u8; 65536];
+    let failure = print_all(&mut rt.stdin(), &mut rt.stdout(), &mut buf, &mut out);
+    pieces::complain(&mut rt.stderr(), b"records", failure);
 }

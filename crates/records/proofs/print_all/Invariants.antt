@@ -1,0 +1,11 @@
+-- less than half of the output waits to be written
+use Rattle.std.proofs.Common.{◌<◌}
+use Rattle.records.specs.Room.{half}
+use Rattle.records.proofs.print_all.Given as goal
+
+abbrev pub invariant-loop-turns : goal.invariant-loop-turns
+invariant-loop-turns g l = l.p.filled < half
+
+-- the turns that are left
+abbrev pub decreases-loop-turns : goal.decreases-loop-turns
+decreases-loop-turns g l = l.turns
