@@ -12,7 +12,7 @@ use Rattle.logic.specs.Laws.{both, and_right, by_test}
 use Rattle.record.specs.declared.FilterRecord.{FilterRecord}
 use Rattle.record.specs.declared.Record.TheVariants.{Filter}
 use Rattle.text.specs.Meaning.{Page, put_of, written, ascii, digits_of}
-use Rattle.text.specs.Laws.{written_append}
+use Rattle.text.proofs.Laws.{written_append}
 use Rattle.lines.specs.Meaning.{label_of, line_of}
 use Rattle.lines.specs.Form.{is_mark, shown_as, handle_as, filled_in}
 

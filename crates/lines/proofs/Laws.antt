@@ -4,7 +4,7 @@ use Rattle.std.proofs.Common.{sym, ap, ◌∙◌}
 use Rattle.record.specs.declared.Record.{Record}
 use Rattle.record.specs.declared.Record.TheVariants.{Port, Filter, Gate, GateEntry, Meter, Group, Scheduler, Start, Arrival, Clear}
 use Rattle.record.specs.Meaning.{Kind, port, filter, gate, gate_entry, meter, group, scheduler, start, arrival, clear, fields_of, values_at, record_of}
-use Rattle.record.specs.Laws.{Says}
+use Rattle.record.proofs.Laws.{Says}
 use Rattle.lines.specs.Meaning.{Column, number, number_or, next_or, line_row, kind_in, values_of, line_with, line_of}
 
 -- the record that a record's own values make is that record

@@ -6,9 +6,9 @@ use Rattle.logic.specs.Laws.{by_test, if_by}
 use Rattle.record.specs.declared.Record.{Record}
 use Rattle.record.specs.declared.Reading.TheVariants.{Taken}
 use Rattle.record.specs.Meaning.{Kind, port, filter, gate, gate_entry, meter, group, scheduler, start, arrival, clear, Field, fields_of, number_at, values_at, read_of}
-use Rattle.record.specs.Laws.{Octets, read_says}
+use Rattle.record.proofs.Laws.{Octets, read_says}
 use Rattle.text.specs.Meaning.{page, written, ascii, digits_of}
-use Rattle.text.specs.Room.{whole_line, written_whole, tens, digits_most}
+use Rattle.text.proofs.Room.{whole_line, written_whole, tens, digits_most}
 use Rattle.lines.specs.Meaning.{Column, number, number_or, next_or, line_row, label_of, columns_of, line_with, line_of}
 use Rattle.lines.specs.Room.{record_room}
 use Rattle.lines.proofs.Laws.{line_of_read}

@@ -13,7 +13,7 @@ use Rattle.record.specs.declared.SchedulerRecord.{SchedulerRecord}
 use Rattle.record.specs.declared.StartRecord.{StartRecord}
 use Rattle.record.specs.declared.Refusal.TheVariants.{SetUpAlready}
 use Rattle.record.specs.Meaning.{body_in}
-use Rattle.record.specs.Sorts.{Setup, never_setup}
+use Rattle.record.proofs.Sorts.{Setup, never_setup}
 use Rattle.bank.specs.Meaning.{Rows, port_row, gate_row, group_row, scheduler_row, entries, component_row}
 use Rattle.bank.proofs.Rows.{row_other}
 use Rattle.filter.specs.declared.Filter.{Filter}

@@ -9,7 +9,7 @@ use Rattle.record.specs.declared.Record.TheVariants.{GateEntry}
 use Rattle.record.specs.declared.GateEntryRecord.{GateEntryRecord}
 use Rattle.record.specs.declared.Reading.TheVariants.{Taken}
 use Rattle.record.specs.Meaning.{View, body_in, body_of, read_of}
-use Rattle.record.specs.Laws.{read_uses}
+use Rattle.record.proofs.Laws.{read_uses}
 use Rattle.record.proofs.Ranges.{read_ranges}
 
 -- ---- of a record that uses so many octets, all of them there

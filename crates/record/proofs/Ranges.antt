@@ -7,7 +7,7 @@ use Rattle.record.specs.declared.Record.{Record}
 use Rattle.record.specs.declared.Record.TheVariants.{Port, Filter, Gate, GateEntry, Meter, Group, Scheduler, Start, Arrival, Clear}
 use Rattle.record.specs.declared.Reading.TheVariants.{Taken}
 use Rattle.record.specs.Meaning.{Kind, port, filter, gate, gate_entry, meter, group, scheduler, start, arrival, clear, Range, any, upto, between, upto_or_255, Field, within, all_within, kind_row, fields_of, fields_in_range, values_at, record_of, record_length, read_of}
-use Rattle.record.specs.Laws.{read_says}
+use Rattle.record.proofs.Laws.{read_says}
 
 abbrev pub Within : Range → ℕ → Type 0
 Within any v = Unit {0}

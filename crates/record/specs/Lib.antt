@@ -1,4 +1,1 @@
 pub mod Meaning
-pub mod Sorts
-pub mod Cases
-pub mod Laws

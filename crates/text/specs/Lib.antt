@@ -1,3 +1,1 @@
 pub mod Meaning
-pub mod Laws
-pub mod Room

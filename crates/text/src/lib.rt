@@ -12,7 +12,7 @@ use gate::Gate;
 use meter::Meter;
 use verdict::{Drop, Pass};
 
-// The room that is kept for a line: none is longer (specs/Room.antt).
+// The room that is kept for a line: none is longer (proofs/Room.antt).
 pub const LINE: usize = 64;
 
 // Ruled out: another octet; the place not moved on.
@@ -41,7 +41,7 @@ pub fn put_octets(out: &mut [u8], at: usize, octets: &[u8]) -> usize
 
 // In decimal, with no leading zeros.
 // Ruled out: a digit twice; the first digit left out.
-#[tactic(auto, using(crate::specs::Laws::digits_two))]
+#[tactic(auto, using(crate::proofs::Laws::digits_two))]
 pub fn put_number(out: &mut [u8], at: usize, n: u64) -> usize
     ensures { page out.new result ≡ written (page out.old at) (digits_of n) }
 {

@@ -1,7 +1,7 @@
 -- `lines::put_filter` meets its contract: its two forms, filled in, and the handle between them compute to the line. Assumes nothing.
 use mathlib.Core.Path.{ap, ◌∙◌}
 use Rattle.text.specs.Meaning.{written}
-use Rattle.text.specs.Laws.{written_then}
+use Rattle.text.proofs.Laws.{written_then}
 use Rattle.lines.proofs.Form.{filter_parts}
 use Rattle.lines.proofs.put_filter.Goals as goal
 

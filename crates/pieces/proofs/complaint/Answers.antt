@@ -1,7 +1,7 @@
 -- The program's name, and behind it which stream has failed.
 use Rattle.std.proofs.Common.{sym, ap, ◌∙◌}
 use Rattle.text.specs.Meaning.{ascii, page, written}
-use Rattle.text.specs.Laws.{written_then, written_none}
+use Rattle.text.proofs.Laws.{written_then, written_none}
 use Rattle.pieces.specs.declared.Failure.{Failure}
 use Rattle.pieces.specs.Meaning.{complaint_of}
 use Rattle.pieces.proofs.complaint.Goals as goal

@@ -10,8 +10,8 @@ use Rattle.record.specs.declared.Refusal.TheVariants.{TableLength}
 use Rattle.record.specs.declared.Reading.{Reading}
 use Rattle.record.specs.declared.Reading.TheVariants as reading
 use Rattle.record.specs.Meaning.{read_of}
-use Rattle.record.specs.Sorts.{Sort, setup, arrival, clear, sort_of}
-use Rattle.record.specs.Laws.{read_in_turn, read_setup}
+use Rattle.record.proofs.Sorts.{Sort, setup, arrival, clear, sort_of}
+use Rattle.record.proofs.Laws.{read_in_turn, read_setup}
 use Rattle.record.proofs.Ranges.{read_ranges}
 use Rattle.bank.specs.Meaning.{Rows, is_set, word, scheduler_row}
 use Rattle.stage.specs.Meaning.{Bridge, Took, bridge, refused_of, read_by, key_of, taken_of, started_of, take_of}

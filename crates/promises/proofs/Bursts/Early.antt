@@ -12,7 +12,7 @@ use Rattle.record.specs.declared.GateEntryRecord.{GateEntryRecord}
 use Rattle.record.specs.declared.StartRecord.{StartRecord}
 use Rattle.record.specs.declared.Refusal.TheVariants.{SetUpAlready, Missing, BurstTooSmall}
 use Rattle.record.specs.Meaning.{body_in}
-use Rattle.record.specs.Sorts.{Setup, never_setup}
+use Rattle.record.proofs.Sorts.{Setup, never_setup}
 use Rattle.record.proofs.Ranges.{Ranged}
 use Rattle.bank.specs.Meaning.{Rows, word, is_set, component_row, port_row, scheduler_row, component, entries, burst, scheduler_in, with_classes}
 use Rattle.bank.proofs.Rows.{row_same, row_other}

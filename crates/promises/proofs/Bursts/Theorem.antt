@@ -9,7 +9,7 @@ use Rattle.record.specs.declared.Record.TheVariants as kind
 use Rattle.record.specs.declared.Refusal.{Refusal}
 use Rattle.record.specs.declared.Refusal.TheVariants.{OutOfTurn, TableLength}
 use Rattle.record.specs.Meaning.{read_of}
-use Rattle.record.specs.Laws.{read_late}
+use Rattle.record.proofs.Laws.{read_late}
 use Rattle.record.proofs.Ranges.{read_ranges}
 use Rattle.bank.specs.Meaning.{group_row, scheduler_row, component_row, port_row, counters_row, gate_row, gate_state_row, meter_row, meter_state_row}
 use Rattle.verdict.specs.declared.Verdict.{Verdict}

@@ -13,7 +13,7 @@ use Rattle.record.specs.declared.Reading.{Reading}
 use Rattle.bank.specs.Meaning.{Rows, word, component_row, port_row, group_row, scheduler_row, row_of_port, port, gate_state_row, meter_state_row, one_more, with_row, counters_row, counters, with_scheduler_state, with_group_last}
 use Rattle.bank.proofs.Rows.{row_same, row_other, row_kept}
 use Rattle.record.specs.declared.PortRecord.{PortRecord}
-use Rattle.record.specs.Sorts.{Setup, Sort, setup, arrival, clear, sort_of, setup_arrival}
+use Rattle.record.proofs.Sorts.{Setup, Sort, setup, arrival, clear, sort_of, setup_arrival}
 use Rattle.record.proofs.Ranges.{read_ranges}
 use Rattle.filter.specs.declared.Filter.{Filter}
 use Rattle.filter.specs.declared.Found.{Found}

@@ -12,7 +12,7 @@ use Rattle.record.specs.declared.ArrivalRecord.{ArrivalRecord}
 use Rattle.record.specs.declared.ClearRecord.{ClearRecord}
 use Rattle.record.specs.declared.Refusal.{Refusal}
 use Rattle.record.specs.declared.Refusal.TheVariants.{NotSetUp}
-use Rattle.record.specs.Sorts.{Sort, setup, arrival, clear, sort_of, setup_arrival}
+use Rattle.record.proofs.Sorts.{Sort, setup, arrival, clear, sort_of, setup_arrival}
 use Rattle.bank.specs.Meaning.{Rows, with_row, word, counters_row, gate_state_row, meter_state_row, counters_in, counters, gate_is_set, meter_is_set, row_with, counter_place, one_more, bump, with_oversize, component_row, scheduler_row, group_row, port_row}
 use Rattle.bank.proofs.Rows.{row_other, row_kept, row_same}
 use Rattle.bank.specs.declared.Counters.{Counters}

@@ -9,7 +9,7 @@ use Rattle.record.specs.declared.Record.{Record}
 use Rattle.record.specs.declared.ArrivalRecord.{ArrivalRecord}
 use Rattle.record.specs.declared.ClearRecord.{ClearRecord}
 use Rattle.record.specs.declared.Refusal.TheVariants.{NotSetUp}
-use Rattle.record.specs.Sorts.{Setup}
+use Rattle.record.proofs.Sorts.{Setup}
 use Rattle.bank.specs.Meaning.{Rows, word, is_set, row_of_gate_state, counters_row, gate_state_row, meter_state_row, gate, gate_is_set, meter_is_set, component_row, scheduler_row, group_row, port_row}
 use Rattle.filter.specs.declared.Filter.{Filter}
 use Rattle.filter.specs.declared.Found.{Found}

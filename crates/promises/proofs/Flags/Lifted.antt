@@ -13,7 +13,7 @@ use Rattle.record.specs.declared.ClearRecord.{ClearRecord}
 use Rattle.record.specs.declared.Refusal.{Refusal}
 use Rattle.record.specs.declared.Refusal.TheVariants.{NotSetUp}
 use Rattle.record.specs.declared.Reading.{Reading}
-use Rattle.record.specs.Sorts.{Sort, setup, arrival, clear, sort_of, setup_clear}
+use Rattle.record.proofs.Sorts.{Sort, setup, arrival, clear, sort_of, setup_clear}
 use Rattle.bank.specs.Meaning.{Rows, counters, gate, gate_is_set, meter, meter_is_set}
 use Rattle.filter.specs.declared.Filter.{Filter}
 use Rattle.filter.specs.Meaning.{row_of, counts_of}

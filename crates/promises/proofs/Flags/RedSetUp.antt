@@ -12,7 +12,7 @@ use Rattle.record.specs.declared.ClearRecord.{ClearRecord}
 use Rattle.record.specs.declared.MeterRecord.{MeterRecord}
 use Rattle.record.specs.declared.Refusal.TheVariants.{NotSetUp, SetUpAlready}
 use Rattle.record.specs.Meaning.{body_in}
-use Rattle.record.specs.Sorts.{Setup, Sort, setup, arrival, clear, sort_of}
+use Rattle.record.proofs.Sorts.{Setup, Sort, setup, arrival, clear, sort_of}
 use Rattle.bank.specs.Meaning.{Rows, with_row, word, is_set, counters_row, gate_state_row, meter_row, meter_state_row, row_of_meter, row_of_meter_state, gate_is_set, meter, meter_is_set, with_meter, with_meter_state, meters_from, groups_from, component_row, scheduler_row, group_row, port_row}
 use Rattle.bank.proofs.Rows.{row_same, row_other}
 use Rattle.filter.specs.declared.Filter.{Filter}

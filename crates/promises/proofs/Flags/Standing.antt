@@ -8,7 +8,7 @@ use Rattle.record.specs.declared.Record.{Record}
 use Rattle.record.specs.declared.ArrivalRecord.{ArrivalRecord}
 use Rattle.record.specs.declared.ClearRecord.{ClearRecord}
 use Rattle.record.specs.declared.Reading.{Reading}
-use Rattle.record.specs.Sorts.{Setup, Sort, setup, arrival, clear, sort_of}
+use Rattle.record.proofs.Sorts.{Setup, Sort, setup, arrival, clear, sort_of}
 use Rattle.record.proofs.Ranges.{read_ranges}
 use Rattle.bank.specs.Meaning.{Rows, with_row, word, is_set}
 use Rattle.bank.proofs.Rows.{row_same, row_other}

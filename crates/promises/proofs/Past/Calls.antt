@@ -22,8 +22,8 @@ use Rattle.record.specs.declared.ClearRecord.{ClearRecord}
 use Rattle.record.specs.declared.Refusal.{Refusal}
 use Rattle.record.specs.declared.Refusal.TheVariants.{SetUpAlready, Missing, BurstTooSmall}
 use Rattle.record.specs.Meaning.{body_in, read_of}
-use Rattle.record.specs.Laws.{read_setup}
-use Rattle.record.specs.Sorts.{Setup}
+use Rattle.record.proofs.Laws.{read_setup}
+use Rattle.record.proofs.Sorts.{Setup}
 use Rattle.record.proofs.Ranges.{read_ranges}
 use Rattle.bank.specs.Meaning.{Rows, component_row, gate_row, port, gate_is_set, entries, meter_is_set, group, scheduler_is_set}
 use Rattle.filter.specs.declared.Filter.{Filter}

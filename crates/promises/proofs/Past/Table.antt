@@ -9,8 +9,8 @@ use Rattle.logic.specs.Laws.{by_test}
 use Rattle.record.specs.declared.Record.{Record}
 use Rattle.record.specs.declared.ClearRecord.{ClearRecord}
 use Rattle.record.specs.Meaning.{Kind, kind_of, comes, in_turn_of, fields_in_range, record_of, record_length, fields_of, values_at, read_of}
-use Rattle.record.specs.Sorts.{turn_in}
-use Rattle.record.specs.Laws.{says_read, read_in_turn}
+use Rattle.record.proofs.Sorts.{turn_in}
+use Rattle.record.proofs.Laws.{says_read, read_in_turn}
 use Rattle.record.proofs.Ranges.{read_ranges}
 use Rattle.bank.specs.Meaning.{Rows, component_row}
 use Rattle.filter.specs.Meaning.{row_of}

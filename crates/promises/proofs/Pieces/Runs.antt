@@ -14,8 +14,8 @@ use Rattle.verdict.specs.declared.Verdict.{Verdict}
 use Rattle.verdict.specs.declared.Verdict.TheVariants.{Refused, Taken, Passed, Dropped}
 use Rattle.stage.specs.Meaning.{Bridge, Took, take_of}
 use Rattle.text.specs.Meaning.{line_room, Page, page, written, pass_line_of, drop_line_of}
-use Rattle.text.specs.Laws.{written_append, written_none}
-use Rattle.text.specs.Room.{room_whole, length_written}
+use Rattle.text.proofs.Laws.{written_append, written_none}
+use Rattle.text.proofs.Room.{room_whole, length_written}
 use Rattle.run.specs.declared.Progress.{Progress}
 use Rattle.run.specs.Meaning.{again_of, room_of, Printed, printed, printed_by, printed_of, moved_of, stopped_of, Ran, ran_to, piece_run_of}
 use Rattle.run.specs.Input.Meaning.{NoRefusal, Front, begins, takes, Input, arrival_in, arrivals_in, used_in, verdict_line_of, lines_of, told_of}

@@ -11,7 +11,7 @@ use Rattle.record.specs.declared.Refusal.{Refusal}
 use Rattle.record.specs.declared.Refusal.TheVariants.{CutShort, TableLength}
 use Rattle.record.specs.declared.Reading.{Reading}
 use Rattle.record.specs.Meaning.{read_of, record_length}
-use Rattle.record.specs.Laws.{read_uses, read_extends}
+use Rattle.record.proofs.Laws.{read_uses, read_extends}
 use Rattle.record.proofs.BodyLaws.{body_extends}
 use Rattle.verdict.specs.declared.Answer.{Answer}
 use Rattle.verdict.specs.declared.Verdict.{Verdict}

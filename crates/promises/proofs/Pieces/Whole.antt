@@ -19,7 +19,7 @@ use Rattle.verdict.specs.Meaning.{Told}
 use Rattle.setup.specs.Meaning.{Listed, refused_if, set_port_of, set_gate_of, add_entry_of, set_meter_of, set_group_of, set_scheduler_of, start_of, clear_oversize_of, clear_invalid_receive_of, clear_octets_of, clear_red_of, clear_of}
 use Rattle.stage.specs.Meaning.{Bridge, Took, answered, taken_of, take_of}
 use Rattle.text.specs.Meaning.{page}
-use Rattle.text.specs.Room.{whole_line, written_whole, pass_room, drop_room}
+use Rattle.text.proofs.Room.{whole_line, written_whole, pass_room, drop_room}
 use Rattle.run.specs.declared.Progress.{Progress}
 use Rattle.run.specs.Meaning.{room_of, piece_run_of}
 use Rattle.run.specs.Input.Meaning.{Front, begins, takes, told_of}

@@ -9,7 +9,7 @@ use Rattle.record.specs.declared.GateEntryRecord.{GateEntryRecord}
 use Rattle.record.specs.declared.Refusal.{Refusal}
 use Rattle.record.specs.declared.Refusal.TheVariants.{SetUpAlready}
 use Rattle.record.specs.Meaning.{body_in, Kind, kind_of, record_length}
-use Rattle.record.specs.Laws.{read_says}
+use Rattle.record.proofs.Laws.{read_says}
 use Rattle.bank.specs.Meaning.{Rows}
 use Rattle.filter.specs.declared.Filter.{Filter}
 use Rattle.filter.specs.declared.Found.{Found}

@@ -5,8 +5,8 @@ use Rattle.logic.specs.Laws.{never}
 use Rattle.record.specs.declared.Record.{Record}
 use Rattle.record.specs.declared.ArrivalRecord.{ArrivalRecord}
 use Rattle.record.specs.Meaning.{read_of}
-use Rattle.record.specs.Laws.{read_in_turn, read_setup}
-use Rattle.record.specs.Sorts.{Sort, setup, arrival, clear, sort_of}
+use Rattle.record.proofs.Laws.{read_in_turn, read_setup}
+use Rattle.record.proofs.Sorts.{Sort, setup, arrival, clear, sort_of}
 use Rattle.record.proofs.Ranges.{read_ranges}
 use Rattle.filter.specs.Meaning.{row_of}
 use Rattle.stage.specs.Meaning.{Bridge, Took, started_of, taken_of, take_of}

@@ -18,7 +18,7 @@ use Rattle.record.specs.declared.StartRecord.{StartRecord}
 use Rattle.record.specs.declared.ClearRecord.{ClearRecord}
 use Rattle.record.specs.declared.Refusal.{Refusal}
 use Rattle.record.specs.declared.Refusal.TheVariants.{SetUpAlready, Missing, BurstTooSmall, NotSetUp}
-use Rattle.record.specs.Sorts.{Setup, never_setup}
+use Rattle.record.proofs.Sorts.{Setup, never_setup}
 use Rattle.record.proofs.Ranges.{Ranged}
 use Rattle.bank.specs.Meaning.{Rows, with_row, gates_from, meters_from, counters_from, component_row, counters_row, gate_state_row, group_row, scheduler_row, word, is_set, row_with, component, port, with_classes, gate_is_set, meter, meter_is_set, group, scheduler_is_set, scheduler_group}
 use Rattle.bank.proofs.Rows.{row_other}

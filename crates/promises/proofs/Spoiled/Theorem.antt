@@ -17,7 +17,7 @@ use Rattle.record.specs.declared.StartRecord.{StartRecord}
 use Rattle.record.specs.declared.Refusal.TheVariants.{TableLength, SetUpAlready}
 use Rattle.record.specs.declared.Reading.{Reading}
 use Rattle.record.specs.Meaning.{read_of}
-use Rattle.record.specs.Laws.{read_in_turn}
+use Rattle.record.proofs.Laws.{read_in_turn}
 use Rattle.bank.specs.Meaning.{Rows}
 use Rattle.filter.specs.declared.Filter.{Filter}
 use Rattle.filter.specs.declared.Asks.TheVariants.{Fits, Missing, ExceedsBurst}

@@ -1,7 +1,7 @@
 -- `record::body` meets its contract: each way out shows the part of the input that `body_of` names. Assumes nothing.
 use Rattle.std.proofs.Common.{refl, arith}
 use Rattle.record.specs.Meaning.{view_of}
-use Rattle.record.specs.Cases.{body_none, body_past, body_part}
+use Rattle.record.proofs.Cases.{body_none, body_past, body_part}
 use Rattle.record.proofs.body.Goals as goal
 
 pub returns-then-used-eq0 : goal.returns-then-used-eq0

@@ -1,6 +1,6 @@
 -- `record::read` meets its contract: each way out is a case of `read_of`. Assumes nothing.
 use Rattle.std.proofs.Common.{sym, ◌∙◌}
-use Rattle.record.specs.Cases.{read_empty, read_unknown, read_cut, read_turn, read_whole}
+use Rattle.record.proofs.Cases.{read_empty, read_unknown, read_cut, read_turn, read_whole}
 use Rattle.record.proofs.read.Goals as goal
 
 pub returns-then-input-eq0 : goal.returns-then-input-eq0

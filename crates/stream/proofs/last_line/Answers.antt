@@ -1,7 +1,7 @@
 -- The last line, where nothing has failed; none where something has.
 use Rattle.std.proofs.Common.{sym, ap, ◌∙◌}
 use Rattle.text.specs.Meaning.{page, written}
-use Rattle.text.specs.Laws.{written_none}
+use Rattle.text.proofs.Laws.{written_none}
 use Rattle.pieces.specs.declared.Failure.{Failure}
 use Rattle.stream.specs.Meaning.{line_by, last_line_of}
 use Rattle.stream.proofs.last_line.Goals as goal

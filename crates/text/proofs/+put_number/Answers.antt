@@ -1,7 +1,7 @@
 -- `text::put_number` meets its contract, by one digit, by two, and by a hundredth of the number and two digits. Assumes nothing.
 use Rattle.std.proofs.Common.{sym, ap, ◌∙◌, arith}
 use Rattle.text.specs.Meaning.{written}
-use Rattle.text.specs.Laws.{written_one, written_then, digits_one, digits_pair}
+use Rattle.text.proofs.Laws.{written_one, written_then, digits_one, digits_pair}
 use Rattle.text.proofs.+put_number.Goals as goal
 
 pub returns-then-n-lt10 : goal.returns-then-n-lt10

@@ -1,6 +1,6 @@
 -- `text::put_drop` meets its contract: each part of the line is put after the one before it. Assumes nothing.
 use Rattle.std.proofs.Common.{ℕ, ap, ◌∙◌}
-use Rattle.text.specs.Laws.{written_one, written_then}
+use Rattle.text.proofs.Laws.{written_one, written_then}
 use Rattle.text.specs.Meaning.{page, written, digits_of, drop_line_of}
 use Rattle.text.proofs.put_drop.Goals as goal
 

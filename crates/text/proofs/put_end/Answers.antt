@@ -1,5 +1,5 @@
 -- `text::put_end` meets its contract: each part of the line is put after the one before it. Assumes nothing.
-use Rattle.text.specs.Laws.{written_one, written_then}
+use Rattle.text.proofs.Laws.{written_one, written_then}
 use Rattle.text.specs.Meaning.{end_line_of}
 use Rattle.text.proofs.put_end.Goals as goal
 

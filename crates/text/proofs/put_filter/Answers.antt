@@ -1,5 +1,5 @@
 -- `text::put_filter` meets its contract: each part of the line is put after the one before it. Assumes nothing.
-use Rattle.text.specs.Laws.{written_then}
+use Rattle.text.proofs.Laws.{written_then}
 use Rattle.text.specs.Meaning.{filter_items_of}
 use Rattle.text.proofs.put_filter.Goals as goal
 

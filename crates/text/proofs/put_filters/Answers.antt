@@ -2,7 +2,7 @@
 use Rattle.std.proofs.Common.{ap, ◌∙◌, arith}
 use Rattle.bank.specs.declared.Counters.{Counters}
 use Rattle.text.specs.Meaning.{page, written, filter_items_of}
-use Rattle.text.specs.Laws.{up_none, up_next}
+use Rattle.text.proofs.Laws.{up_none, up_next}
 use Rattle.text.proofs.put_filters.Invariants.{items}
 use Rattle.text.proofs.put_filters.Goals as goal
 

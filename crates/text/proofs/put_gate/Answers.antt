@@ -1,5 +1,5 @@
 -- `text::put_gate` meets its contract: each part of the line is put after the one before it. Assumes nothing.
-use Rattle.text.specs.Laws.{written_then}
+use Rattle.text.proofs.Laws.{written_then}
 use Rattle.text.specs.Meaning.{gate_items_of}
 use Rattle.text.proofs.put_gate.Goals as goal
 

@@ -2,7 +2,7 @@
 use Rattle.std.proofs.Common.{ap, ◌∙◌, arith}
 use Rattle.gate.specs.declared.Gate.{Gate}
 use Rattle.text.specs.Meaning.{page, written, gate_items_of}
-use Rattle.text.specs.Laws.{up_none, up_next}
+use Rattle.text.proofs.Laws.{up_none, up_next}
 use Rattle.text.proofs.put_gates.Invariants.{items}
 use Rattle.text.proofs.put_gates.Goals as goal
 

@@ -1,6 +1,6 @@
 -- `text::put_item` meets its contract: each part of the line is put after the one before it. Assumes nothing.
 use Rattle.std.proofs.Common.{[], arith}
-use Rattle.text.specs.Laws.{written_one, written_then, item_none, item_some}
+use Rattle.text.proofs.Laws.{written_one, written_then, item_none, item_some}
 use Rattle.text.specs.Meaning.{page}
 use Rattle.text.proofs.put_item.Goals as goal
 

@@ -2,7 +2,7 @@
 use Rattle.std.proofs.Common.{ap, ◌∙◌, arith}
 use Rattle.meter.specs.declared.Meter.{Meter}
 use Rattle.text.specs.Meaning.{page, written, meter_item_of}
-use Rattle.text.specs.Laws.{up_none, up_next}
+use Rattle.text.proofs.Laws.{up_none, up_next}
 use Rattle.text.proofs.put_meters.Invariants.{items}
 use Rattle.text.proofs.put_meters.Goals as goal
 

@@ -1,5 +1,5 @@
 -- `text::put_octet` meets its contract. Assumes nothing.
-use Rattle.text.specs.Laws.{put_in, put_past}
+use Rattle.text.proofs.Laws.{put_in, put_past}
 use Rattle.text.proofs.put_octet.Goals as goal
 
 pub returns-then-at-out : goal.returns-then-at-out

@@ -2,7 +2,7 @@
 use Rattle.std.proofs.Common.{sym, ap, ◌∙◌, ◌≡◌, ℕ, length, drop, arith}
 use Rattle.std.proofs.Math.Seq.{drop-length}
 use Rattle.text.specs.Meaning.{page, written}
-use Rattle.text.specs.Laws.{written_next, written_none}
+use Rattle.text.proofs.Laws.{written_next, written_none}
 use Rattle.text.proofs.put_octets.Goals as goal
 
 pub loop-i-preserved : goal.loop-i-preserved

@@ -1,5 +1,5 @@
 -- `text::put_pair` meets its contract. Assumes nothing.
-use Rattle.text.specs.Laws.{written_one, written_then}
+use Rattle.text.proofs.Laws.{written_one, written_then}
 use Rattle.text.proofs.put_pair.Goals as goal
 
 pub returns : goal.returns

@@ -2,7 +2,7 @@
 use Rattle.std.proofs.Common.{ap, ◌∙◌, arith}
 use Rattle.bank.specs.declared.Port.{Port}
 use Rattle.text.specs.Meaning.{page, written, port_item_of}
-use Rattle.text.specs.Laws.{up_none, up_next}
+use Rattle.text.proofs.Laws.{up_none, up_next}
 use Rattle.text.proofs.put_ports.Invariants.{items}
 use Rattle.text.proofs.put_ports.Goals as goal
 

@@ -1,5 +1,5 @@
 -- `text::put_refused` meets its contract: each part of the line is put after the one before it. Assumes nothing.
-use Rattle.text.specs.Laws.{written_one, written_then}
+use Rattle.text.proofs.Laws.{written_one, written_then}
 use Rattle.text.specs.Meaning.{refused_line_of}
 use Rattle.text.proofs.put_refused.Goals as goal
 

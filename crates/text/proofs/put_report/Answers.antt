@@ -1,5 +1,5 @@
 -- `text::put_report` meets its contract. Assumes nothing.
-use Rattle.text.specs.Laws.{written_then}
+use Rattle.text.proofs.Laws.{written_then}
 use Rattle.text.specs.Meaning.{report_of}
 use Rattle.text.proofs.put_report.Goals as goal
 

@@ -1,6 +1,6 @@
 -- `text::put_time` meets its contract. Assumes nothing.
 use Rattle.std.proofs.Common.{Bool, ap, sym, ◌∙◌}
-use Rattle.text.specs.Laws.{written_one}
+use Rattle.text.proofs.Laws.{written_one}
 use Rattle.text.specs.Meaning.{page, written, time_of}
 use Rattle.text.proofs.put_time.Goals as goal
 

@@ -12,8 +12,8 @@ use Rattle.record.specs.declared.Refusal.TheVariants.{CutShort, OutOfRange, OutO
 use Rattle.record.specs.declared.Reading.{Reading}
 use Rattle.record.specs.declared.Reading.TheVariants.{Refused, Taken}
 use Rattle.record.specs.Meaning.{Kind, port, filter, gate, gate_entry, meter, group, scheduler, start, arrival, clear, kinds, kind_of, Turn, before, after, Field, octet_of, turn_of, fields_of, widths_of, fields_in_range, number_at, values_at, big_endian_of, encoded_of, record_of, record_length, length_in, comes, in_turn_of, in_turn_in, read_as, read_of}
-use Rattle.record.specs.Sorts.{turn_in, Setup}
-use Rattle.record.specs.Cases.{length_positive, read_turn}
+use Rattle.record.proofs.Sorts.{turn_in, Setup}
+use Rattle.record.proofs.Cases.{length_positive, read_turn}
 
 -- ---- octets that agree say the same numbers
 
