@@ -139,7 +139,7 @@ impl Meter {
         m
     }
 
-    #[tactic(auto, using(crate::proofs::Cases::painted_stopped_lem, crate::proofs::Cases::painted_green_lem, crate::proofs::Cases::painted_yellow_lem, crate::proofs::Cases::painted_red_lem))]
+    #[tactic(auto, unfolding(crate::specs::Meaning::painted_of))]
     fn paint(self, need: u64, drop_eligible: bool) -> Metered
         ensures { result ≡ painted_of self need drop_eligible }
     {

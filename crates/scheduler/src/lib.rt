@@ -68,7 +68,7 @@ pub fn offered(s: Scheduler, group: u64, residence: u64, arrival: u64, length: O
 }
 
 // The step on a scheduler by value, for the one that is lent.
-#[tactic(auto, using(crate::proofs::Range::ranged, crate::proofs::Cases::step_refused, crate::proofs::Cases::step_dropped, crate::proofs::Cases::step_admitted, crate::proofs::Cases::enough))]
+#[tactic(auto, using(crate::proofs::Range::ranged, crate::proofs::Cases::step_refused, crate::proofs::Cases::step_dropped, crate::proofs::Cases::enough))]
 fn step(s: Scheduler, group: u64, residence: u64, arrival: u64, length: Octets) -> Stepped
     ensures { result ≡ scheduler_step_of s group residence arrival length }
 {
