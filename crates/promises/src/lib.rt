@@ -1,3 +1,3 @@
-// What the bridge keeps to over every history of calls. All of it is in specs/: theorems about `take_of`, which `stage::take` meets.
+// What the bridge keeps to over every history of calls: definitions in specs/, theorems about `take_of`, which `stage::take` meets, in proofs/.
 
 #![tactic(auto)]
