@@ -1,14 +1,56 @@
 -- The cases of a run, as the code has them.
-use Rattle.std.specs.Prelude.{◌≡◌, ℕ, zero, suc, ◌-◌, ◌<◌, ◌≤◌, Bool, true, false, cond, List, drop, refl}
-use Rattle.std.proofs.Common.{◌∙◌}
+use Rattle.std.specs.Prelude.{◌≡◌, ℕ, zero, suc, ◌+◌, ◌-◌, ◌<◌, ◌≤◌, Bool, true, false, cond, List, length, take, drop, nat_le, refl}
+use Rattle.std.proofs.Common.{sym, ◌∙◌, length-drop, drop_of_length-le, take_all, leb-true, leb-false, le-leb}
 use Rattle.std.proofs.Math.Path.{ap}
 use native.Mathlib.Omega.{arith}
+use Rattle.std.proofs.lemmas.Bool.{lt-leb}
 use Rattle.verdict.specs.declared.Answer.{Answer}
 use Rattle.stage.specs.Meaning.{Bridge, Took, take_of}
+use Rattle.text.specs.Meaning.{page, written, line_room}
 use Rattle.run.specs.declared.Progress.{Progress}
-use Rattle.run.specs.Meaning.{fewer_of, Printed, printed, printed_of, Ran, ran_to, piece_run_of}
+use Rattle.run.specs.Meaning.{advanced_of, room_of, fewer_of, Printed, printed, printed_of, said_of, moved_of, next_of, Ran, ran_to, piece_run_of}
+
+-- ---- room for a line
+
+pub room_never : (places filled : ℕ) → places < line_room → false ≡ room_of places filled
+room_never places filled l = sym (lt-leb (filled + line_room) places (omega (arith, l)))
+
+pub room_some : (places filled : ℕ) → line_room ≤ places → nat_le filled (places - line_room) ≡ room_of places filled
+room_some places filled l = by_test (nat_le filled (places - line_room)) refl
+  where
+    by_test : (z : Bool) → nat_le filled (places - line_room) ≡ z → z ≡ room_of places filled
+    by_test true e = sym (le-leb (filled + line_room) places (omega (arith, l, leb-true filled (places - line_room) e)))
+    by_test false e = sym (lt-leb (filled + line_room) places (omega (arith, l, leb-false filled (places - line_room) e)))
+
+-- ---- an arrival
+
+module _ (out : List ℕ) (p r : Progress) (used a : ℕ) (line : ℕ → List ℕ) (ea : a ≡ next_of p) where
+  pub told_quiet : p.quiet ≡ true → r ≡ advanced_of p used a p.filled (length out) → printed out r ≡ moved_of out p used (next_of p) (said_of p out (line (next_of p)))
+  told_quiet q e =
+      ap (printed out) (e ∙ ap (λ (n : ℕ). advanced_of p used n p.filled (length out)) ea)
+      ∙ ap (λ (z : Bool). moved_of out p used (next_of p) (cond z (page out p.filled) (written (page out p.filled) (line (next_of p))))) (sym q)
+
+  pub told_aloud : (o : List ℕ) (f : ℕ) → p.quiet ≡ false → page o f ≡ written (page out p.filled) (line a) → r ≡ advanced_of p used a f (length out)
+      → printed o r ≡ moved_of out p used (next_of p) (said_of p out (line (next_of p)))
+  told_aloud o f q w e =
+      ap (printed o) (e ∙ ap (λ (n : ℕ). advanced_of p used n f (length out)) ea)
+      ∙ ap (moved_of out p used (next_of p)) (w ∙ ap (λ (n : ℕ). written (page out p.filled) (line n)) ea)
+      ∙ ap (λ (z : Bool). moved_of out p used (next_of p) (cond z (page out p.filled) (written (page out p.filled) (line (next_of p))))) (sym q)
+
+-- ---- the rest of the input
+
+pub rest_some : (s : List ℕ) (at : ℕ) → take (length s - at) (drop at s) ≡ drop at s
+rest_some s at = take_all (length s - at) (drop at s) (omega (arith, length-drop at s))
+
+pub rest_none : (s : List ℕ) (at : ℕ) → length s ≤ at → take (length s - length s) (drop (length s) s) ≡ drop at s
+rest_none s at l = rest_some s (length s) ∙ drop_of_length-le s {i = length s} (omega arith) ∙ sym (drop_of_length-le s l)
 
 -- ---- a turn of a run
+
+-- there are fewer turns left after one
+pub fewer_falls : (k : ℕ) (more : Bool) → 0 < k → fewer_of k more < k
+fewer_falls k true l = omega (arith, l)
+fewer_falls k false l = l
 
 -- a run with no turn left
 pub run_over : (k : ℕ) (input : List ℕ) (b : Bridge) (out : List ℕ) (p : Progress) → k ≤ 0 → ran_to b (printed out p) ≡ piece_run_of k input b out p
