@@ -6,8 +6,10 @@ mod gates;
 mod meters;
 mod schedulers;
 
-fn main() {
-    schedulers::print();
-    gates::print();
-    meters::print();
+use std::io;
+
+fn main(rt: HostRuntime) -> io::Result<()> {
+    schedulers::print(&rt)?;
+    gates::print(&rt)?;
+    meters::print(&rt)
 }

@@ -1,27 +1,27 @@
 // A meter: ★J, ★K and the coupling figure; and traffic classes: ★L.
 use bucket::{Octets, Rate};
 use class::Class;
-use libc::STDOUT_FILENO;
 use meter::{Meter, Outcome};
+use std::io;
 
-pub fn print() {
-    io::write_all(STDOUT_FILENO, b"J");
-    let a = frame(worked(false), 0, 600);
-    let b = frame(a, 0, 500);
-    let c = frame(b, 0, 400);
-    let d = frame(c, 0, 1);
-    io::write_all(STDOUT_FILENO, b"\nK");
-    frame(d, 8, 1);
-    io::write_all(STDOUT_FILENO, b"\ncoupling");
-    let e = frame(worked(true), 0, 600);
-    let f = frame(e, 0, 500);
+pub fn print(rt: &impl Print) -> io::Result<()> {
+    print!(rt; "J")?;
+    let a = frame(rt, worked(false), 0, 600)?;
+    let b = frame(rt, a, 0, 500)?;
+    let c = frame(rt, b, 0, 400)?;
+    let d = frame(rt, c, 0, 1)?;
+    print!(rt; "\nK")?;
+    frame(rt, d, 8, 1)?;
+    print!(rt; "\ncoupling")?;
+    let e = frame(rt, worked(true), 0, 600)?;
+    let f = frame(rt, e, 0, 500)?;
     // A frame of no octets: it fills the buckets and spends nothing.
-    let g = frame(f, 8800, 0);
-    octets(g.committed);
-    octets(g.excess);
-    io::write_all(STDOUT_FILENO, b"\nL");
-    priority(0, 8);
-    io::write_all(STDOUT_FILENO, b"\n");
+    let g = frame(rt, f, 8800, 0)?;
+    octets(rt, g.committed)?;
+    octets(rt, g.excess)?;
+    print!(rt; "\nL")?;
+    priority(rt, 0, 8)?;
+    println!(rt; "")
 }
 
 fn worked(coupling: bool) -> Meter {
@@ -37,50 +37,32 @@ fn worked(coupling: bool) -> Meter {
     )
 }
 
-fn frame(m: Meter, time: u64, msdu: u32) -> Meter {
+fn frame(rt: &impl Print, m: Meter, time: u64, msdu: u32) -> io::Result<Meter> {
     let r = m.colour(time, Octets(msdu), false);
-    let o = r.outcome;
-    say(o);
-    r.meter
+    say(rt, r.outcome)?;
+    Ok(r.meter)
 }
 
-fn say(o: Outcome) {
+fn say(rt: &impl Print, o: Outcome) -> io::Result<()> {
     match o {
-        Outcome::Green => {
-            io::write_all(STDOUT_FILENO, b" green");
-        }
-        Outcome::Yellow => {
-            io::write_all(STDOUT_FILENO, b" yellow");
-        }
-        Outcome::YellowDropped => {
-            io::write_all(STDOUT_FILENO, b" drop 6");
-        }
-        Outcome::Red => {
-            io::write_all(STDOUT_FILENO, b" red");
-        }
-        Outcome::OutOfRange => {
-            io::write_all(STDOUT_FILENO, b" refused 3");
-        }
-        Outcome::TooEarly => {
-            io::write_all(STDOUT_FILENO, b" refused 9");
-        }
+        Outcome::Green => print!(rt; " green"),
+        Outcome::Yellow => print!(rt; " yellow"),
+        Outcome::YellowDropped => print!(rt; " drop 6"),
+        Outcome::Red => print!(rt; " red"),
+        Outcome::OutOfRange => print!(rt; " refused 3"),
+        Outcome::TooEarly => print!(rt; " refused 9"),
     }
 }
 
-fn octets(level: u64) {
-    io::write_all(STDOUT_FILENO, b" ");
-    io::print_decimal(STDOUT_FILENO, level / bucket::GRAINS);
+fn octets(rt: &impl Print, level: u64) -> io::Result<()> {
+    let whole = level / bucket::GRAINS;
+    print!(rt; " {whole}")
 }
 
-fn priority(p: u8, classes: u8) {
+fn priority(rt: &impl Print, p: u8, classes: u8) -> io::Result<()> {
     let class = class::traffic_class(p, classes);
     match class {
-        Class::Of(n) => {
-            io::write_all(STDOUT_FILENO, b" ");
-            io::print_decimal(STDOUT_FILENO, n as u64);
-        }
-        Class::Refused => {
-            io::write_all(STDOUT_FILENO, b" refused 3");
-        }
+        Class::Of(n) => print!(rt; " {n}"),
+        Class::Refused => print!(rt; " refused 3"),
     }
 }

@@ -1,7 +1,7 @@
 // Schedulers: ★A to ★E.
 use bucket::{Octets, Rate};
-use libc::STDOUT_FILENO;
 use scheduler::{Outcome, Scheduler};
+use std::io;
 
 // A scheduler, and its group's last time.
 #[derive(Clone, Copy)]
@@ -10,25 +10,25 @@ struct Alone {
     group: u64,
 }
 
-pub fn print() {
-    io::write_all(STDOUT_FILENO, b"A");
-    let a = offer(full(1_000_000_000), 0, 0);
-    let b = next(a, 0);
-    let c = next(b, 0);
-    let d = next(c, 0);
-    io::write_all(STDOUT_FILENO, b"\nB");
-    let e = next(d, 0);
-    io::write_all(STDOUT_FILENO, b"\nC");
-    next(e, 2000);
-    io::write_all(STDOUT_FILENO, b"\nD");
-    let f = offer(full(3_000_000_000), 0, 0);
-    let g = next(f, 0);
-    let h = next(g, 0);
-    let i = next(h, 0);
-    next(i, 0);
-    io::write_all(STDOUT_FILENO, b"\nE");
-    offer(full(1_000_000_000), c.group, 0);
-    io::write_all(STDOUT_FILENO, b"\n");
+pub fn print(rt: &impl Print) -> io::Result<()> {
+    print!(rt; "A")?;
+    let a = offer(rt, full(1_000_000_000), 0, 0)?;
+    let b = next(rt, a, 0)?;
+    let c = next(rt, b, 0)?;
+    let d = next(rt, c, 0)?;
+    print!(rt; "\nB")?;
+    let e = next(rt, d, 0)?;
+    print!(rt; "\nC")?;
+    next(rt, e, 2000)?;
+    print!(rt; "\nD")?;
+    let f = offer(rt, full(3_000_000_000), 0, 0)?;
+    let g = next(rt, f, 0)?;
+    let h = next(rt, g, 0)?;
+    let i = next(rt, h, 0)?;
+    next(rt, i, 0)?;
+    print!(rt; "\nE")?;
+    offer(rt, full(1_000_000_000), c.group, 0)?;
+    println!(rt; "")
 }
 
 // A burst of 1000 octets, all there.
@@ -42,31 +42,30 @@ fn full(rate: u64) -> Scheduler {
 }
 
 // A frame of 500 octets, with a residence of 10,000 ns.
-fn offer(s: Scheduler, group: u64, arrival: u64) -> Alone {
+fn offer(rt: &impl Print, s: Scheduler, group: u64, arrival: u64) -> io::Result<Alone> {
     let r = scheduler::offered(s, group, 10_000, arrival, Octets(500));
     let o = r.outcome;
-    say(o);
+    say(rt, o)?;
     let scheduler = r.scheduler;
     match o {
-        Outcome::Admitted { at } => Alone {
+        Outcome::Admitted { at } => Ok(Alone {
             scheduler,
             group: at,
-        },
-        Outcome::Dropped => Alone { scheduler, group },
-        Outcome::Refused => Alone { scheduler, group },
+        }),
+        Outcome::Dropped => Ok(Alone { scheduler, group }),
+        Outcome::Refused => Ok(Alone { scheduler, group }),
     }
 }
 
-fn next(r: Alone, arrival: u64) -> Alone {
+fn next(rt: &impl Print, r: Alone, arrival: u64) -> io::Result<Alone> {
     let s = r.scheduler;
-    offer(s, r.group, arrival)
+    offer(rt, s, r.group, arrival)
 }
 
-fn say(o: Outcome) {
-    io::write_all(STDOUT_FILENO, b" ");
+fn say(rt: &impl Print, o: Outcome) -> io::Result<()> {
     match o {
-        Outcome::Admitted { at } => io::print_decimal(STDOUT_FILENO, at),
-        Outcome::Dropped => io::write_all(STDOUT_FILENO, b"drop 8"),
-        Outcome::Refused => io::write_all(STDOUT_FILENO, b"refused 3"),
-    };
+        Outcome::Admitted { at } => print!(rt; " {at}"),
+        Outcome::Dropped => print!(rt; " drop 8"),
+        Outcome::Refused => print!(rt; " refused 3"),
+    }
 }
