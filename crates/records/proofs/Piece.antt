@@ -5,7 +5,8 @@ use Rattle.record.specs.declared.Reading.TheVariants.{Taken}
 use Rattle.record.specs.Meaning.{read_of}
 use Rattle.record.specs.Laws.{Octets, read_uses}
 use Rattle.lines.specs.Meaning.{line_of}
-use Rattle.lines.specs.Room.{record_room, octets_part, record_room_lem}
+use Rattle.lines.specs.Room.{record_room}
+use Rattle.lines.proofs.Room.{octets_part, record_room_lem}
 
 pub inside : (s : List ℕ) (at : ℕ) (started : Bool) (r : Record) (used : ℕ) → at ≤ length s → read_of (take (length s - at) (drop at s)) started ≡ Taken r used → at + used ≤ length s
 inside s at started r used h e =
