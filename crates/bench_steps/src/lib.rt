@@ -24,7 +24,7 @@ pub extern "C" fn bench_scheduler_step(
     arrival: u64,
     length: u32,
 ) -> u64
-    ensures { ◌≡◌ {A = Stepped} (record { words = words.exit.now; answer = result }) (offered_of words.entry.now residence arrival length) }
+    ensures { ◌≡◌ {A = Stepped} (record { words = words.new; answer = result }) (offered_of words.old residence arrival length) }
 {
     let s = Scheduler {
         rate: Rate(words[0]),
@@ -73,7 +73,7 @@ pub extern "C" fn bench_meter_step(
     msdu: u32,
     drop_eligible: bool,
 ) -> u64
-    ensures { ◌≡◌ {A = Stepped} (record { words = words.exit.now; answer = result }) (coloured_of words.entry.now time msdu drop_eligible) }
+    ensures { ◌≡◌ {A = Stepped} (record { words = words.new; answer = result }) (coloured_of words.old time msdu drop_eligible) }
 {
     let m = Meter {
         cir: Rate(words[0]),
@@ -117,7 +117,7 @@ fn told(o: meter::Outcome) -> u64
 // Ruled out: the gate of the next frame is the one before this frame; a drop answers the IPV in force.
 #[unsafe(no_mangle)]
 pub extern "C" fn bench_gate_step(list: &[u8], words: &mut [u64; 9], time: u64, msdu: u64) -> u64
-    ensures { ◌≡◌ {A = Stepped} (record { words = words.exit.now; answer = result }) (gated_of words.entry.now list.now time msdu) }
+    ensures { ◌≡◌ {A = Stepped} (record { words = words.new; answer = result }) (gated_of words.old list.now time msdu) }
 {
     let r = gate::step(load(words), list, time, msdu);
     let o = r.outcome;
