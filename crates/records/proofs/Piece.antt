@@ -3,7 +3,7 @@ use Rattle.std.proofs.Common.{◌≡◌, ℕ, ◌+◌, ◌-◌, ◌≤◌, Bool,
 use Rattle.record.specs.declared.Record.{Record}
 use Rattle.record.specs.declared.Reading.TheVariants.{Taken}
 use Rattle.record.specs.Meaning.{read_of}
-use Rattle.record.specs.Laws.{Octets, read_uses}
+use Rattle.record.proofs.Laws.{Octets, read_uses}
 use Rattle.lines.specs.Meaning.{line_of}
 use Rattle.lines.specs.Room.{record_room}
 use Rattle.lines.proofs.Room.{octets_part, record_room_lem}

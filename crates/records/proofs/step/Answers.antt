@@ -2,7 +2,7 @@
 use Rattle.std.proofs.Common.{ℕ, ◌≤◌, sym, ◌∙◌, arith, rules}
 use Rattle.records.proofs.Piece.{inside, fits}
 use Rattle.text.specs.Meaning.{page, line_room}
-use Rattle.text.specs.Room.{written_ends, refused_room}
+use Rattle.text.proofs.Room.{written_ends, refused_room}
 use Rattle.lines.specs.Room.{record_room}
 use Rattle.records.proofs.step.Goals as goal
 
