@@ -1,9 +1,8 @@
 // The sizes of a bridge, each named once; what other crates size by them is derived from these.
 // `specs/Meaning.antt` has the same names for the definitions. A test holds include/transomrib.h to them.
-
-// Places of the filter table.
 #![tactic(auto)]
 
+// Places of the filter table.
 pub const FILTERS: usize = 64;
 
 // Ports.

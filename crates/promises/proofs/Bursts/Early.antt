@@ -1,5 +1,5 @@
 -- A setup record or a start on two near bridges: one answer, and the bridges stay near; and once the first has taken its start, its table is checked.
-use Rattle.std.specs.Prelude.{ℕ, Bool, cond, ◌≢◌, ◌≡◌, ltb, length}
+use Rattle.std.specs.Prelude.{ℕ, Bool, cond, ◌≡◌, ltb, length}
 use Rattle.std.proofs.Math.Bool.{true, false}
 use Rattle.std.proofs.Common.{true≢false, sym, subst, ◌∙◌, arith}
 use mathlib.Core.List.{List}
@@ -14,7 +14,7 @@ use Rattle.record.specs.declared.Refusal.TheVariants.{SetUpAlready, Missing, Bur
 use Rattle.record.specs.Meaning.{body_in}
 use Rattle.record.proofs.Sorts.{Setup, never_setup}
 use Rattle.record.proofs.Ranges.{Ranged}
-use Rattle.bank.specs.Meaning.{Rows, word, is_set, component_row, port_row, scheduler_row, component, entries, burst, scheduler_in, with_classes}
+use Rattle.bank.specs.Meaning.{Rows, word, is_set, component_row, port_row, scheduler_row, component, entries, scheduler_in, with_classes}
 use Rattle.bank.proofs.Rows.{row_same, row_other}
 use Rattle.filter.specs.declared.Filter.{Filter}
 use Rattle.filter.specs.declared.Found.{Found}

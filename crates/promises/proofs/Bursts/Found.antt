@@ -1,5 +1,5 @@
 -- The two banks find the same rows of the filter table. Of the bursts a search asks only whether a row exceeds one: a table that passed the start of the first run has no such row, nor then for a larger burst.
-use Rattle.std.specs.Prelude.{ℕ, ◌+◌, ◌≤◌, Bool, ◌&&◌, ◌||◌, List, ◌≢◌, ◌≡◌, eqb, length}
+use Rattle.std.specs.Prelude.{ℕ, ◌+◌, ◌≤◌, Bool, ◌&&◌, ◌||◌, List, ◌≡◌, eqb, length}
 use Rattle.std.proofs.Math.Bool.{true, false, not}
 use Rattle.std.proofs.Common.{true≢false, sym, ap, ◌∙◌, arith, ltb-true, ltb-false, le-ltb}
 use Rattle.std.proofs.Math.Path.{refl, subst}

@@ -1,6 +1,6 @@
 -- Setup records and start on the two banks, before a start is taken: the same answer, and the banks stay near. And the record in which the two runs differ: it brings two equal banks near.
 use Prim.Native.Nat.{ℕ, ◌+◌, ◌-◌, ◌*◌, ◌%◌, ◌≤◌, ◌<◌, min, max}
-use Rattle.std.specs.Prelude.{Bool, true, not, cond, ◌&&◌, ◌||◌, ◌≢◌, ◌≡◌, ltb}
+use Rattle.std.specs.Prelude.{Bool, true, not, cond, ◌&&◌, ◌||◌, ◌≡◌, ltb}
 use Rattle.std.proofs.Math.Bool.{false}
 use Rattle.std.proofs.Common.{true≢false, ap, ◌∙◌, ne_eqb}
 use mathlib.Core.List.{List}
@@ -19,7 +19,7 @@ use Rattle.record.specs.declared.GroupRecord.{GroupRecord}
 use Rattle.record.specs.declared.SchedulerRecord.{SchedulerRecord}
 use Rattle.record.specs.declared.StartRecord.{StartRecord}
 use Rattle.record.specs.declared.Refusal.TheVariants.{SetUpAlready, NinthEntry, Missing, BurstTooSmall}
-use Rattle.bank.specs.Meaning.{Rows, with_row, word, is_set, component_row, port_row, gate_row, meter_row, meter_state_row, group_row, scheduler_row, row_of_port, row_of_gate, row_of_scheduler, component, port, entries, with_entries, group, scheduler_is_set, scheduler_group, groups_from, row_with, with_classes}
+use Rattle.bank.specs.Meaning.{Rows, with_row, word, is_set, component_row, port_row, gate_row, meter_row, meter_state_row, group_row, scheduler_row, row_of_port, row_of_gate, row_of_scheduler, component, entries, with_entries, group, scheduler_is_set, scheduler_group, groups_from, row_with, with_classes}
 use Rattle.bank.proofs.Rows.{row_same}
 use Rattle.verdict.specs.declared.Verdict.{Verdict}
 use Rattle.verdict.specs.declared.Verdict.TheVariants.{Refused, Taken}

@@ -1,5 +1,5 @@
 -- The promise on bursts holds of every two histories that it speaks of (`larger_burst`, at the end).
-use Rattle.std.specs.Prelude.{ℕ, ◌+◌, Bool, true, List, [], ◌∷◌, ◌++◌, ◌⊎◌, ◌≡◌, eqb, length}
+use Rattle.std.specs.Prelude.{ℕ, Bool, true, List, [], ◌∷◌, ◌++◌, ◌⊎◌, ◌≡◌, eqb, length}
 use Rattle.std.proofs.Math.Bool.{false}
 use Rattle.std.proofs.Common.{true≢false, inl, subst, ◌∙◌, arith, eqb-true}
 use Rattle.std.proofs.Math.Logic.{inr}
@@ -16,7 +16,7 @@ use Rattle.verdict.specs.declared.Verdict.{Verdict}
 use Rattle.setup.specs.Meaning.{set_scheduler_of as setUpOf}
 use Rattle.stage.specs.Meaning.{Bridge, Took, answered, refused_of, taken_of, started_of, take_of}
 use Rattle.promises.specs.Bursts.Meaning.{NotLater, same, earlier, Eight, StartTogether, Spared, NoLater, SameOutside, SameBesides, Larger, Promise}
-use Rattle.promises.proofs.Bursts.Pairs.{Near, near_apart, near}
+use Rattle.promises.proofs.Bursts.Pairs.{Near, near_apart}
 use Rattle.promises.proofs.Bursts.Setups.{scheduler_differs}
 use Rattle.promises.proofs.Bursts.Early.{early_checked}
 use Rattle.promises.proofs.Bursts.Later.{Strong}

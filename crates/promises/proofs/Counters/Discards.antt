@@ -20,7 +20,7 @@ use Rattle.filter.specs.declared.Found.{Found}
 use Rattle.filter.specs.declared.Asks.TheVariants.{Fits, Missing, ExceedsBurst}
 use Rattle.filter.specs.Meaning.{row_of}
 use Rattle.verdict.specs.declared.Verdict.{Verdict}
-use Rattle.verdict.specs.declared.Verdict.TheVariants.{Refused, Taken, Dropped, Passed}
+use Rattle.verdict.specs.declared.Verdict.TheVariants.{Refused, Dropped, Passed}
 use Rattle.verdict.specs.Meaning.{Told, told}
 use Rattle.setup.specs.Meaning.{set_port_of, clear_of, with_largest}
 use Rattle.setup.proofs.Cases.{refused_by}

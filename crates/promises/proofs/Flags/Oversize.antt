@@ -7,7 +7,7 @@ use Rattle.bank.specs.declared.Counter.{Counter}
 use Rattle.record.specs.declared.ArrivalRecord.{ArrivalRecord}
 use Rattle.record.specs.declared.ClearRecord.{ClearRecord}
 use Rattle.record.specs.declared.Refusal.TheVariants.{NotSetUp}
-use Rattle.bank.specs.Meaning.{Rows, counters_row, gate_state_row, meter_state_row, counters, gate, meter, bump, component_row, scheduler_row, group_row, port_row}
+use Rattle.bank.specs.Meaning.{Rows, counters_row, gate_state_row, meter_state_row, counters, bump, component_row, scheduler_row, group_row, port_row}
 use Rattle.filter.specs.declared.Filter.{Filter}
 use Rattle.filter.specs.declared.Found.{Found}
 use Rattle.filter.specs.Meaning.{counts_of}

@@ -13,7 +13,7 @@ use Rattle.record.specs.declared.ClearRecord.{ClearRecord}
 use Rattle.record.specs.declared.MeterRecord.{MeterRecord}
 use Rattle.record.specs.declared.Refusal.TheVariants.{NotSetUp, SetUpAlready}
 use Rattle.record.proofs.Sorts.{Setup}
-use Rattle.bank.specs.Meaning.{Rows, with_row, word, is_set, row_of_meter_state, counters_row, gate_state_row, meter_row, meter_state_row, gate, gate_is_set, meter, meter_is_set, component_row, scheduler_row, group_row, port_row}
+use Rattle.bank.specs.Meaning.{Rows, with_row, word, is_set, row_of_meter_state, counters_row, gate_state_row, meter_row, meter_state_row, gate_is_set, meter, meter_is_set, component_row, scheduler_row, group_row, port_row}
 use Rattle.bank.proofs.Rows.{row_other}
 use Rattle.filter.specs.declared.Filter.{Filter}
 use Rattle.filter.specs.declared.Found.{Found}

@@ -1,5 +1,5 @@
 -- A call keeps the agreement of the bridge with what is known: what it takes is noted, and a refusal adds nothing and changes nothing.
-use Rattle.std.specs.Prelude.{ℕ, suc, ◌+◌, ◌*◌, ◌<◌, Bool, true, false, cond, List, [], ◌∷◌, ◌++◌, map, ◌≡◌, ltb, length, drop, set}
+use Rattle.std.specs.Prelude.{ℕ, suc, ◌*◌, ◌<◌, Bool, true, false, cond, List, [], ◌∷◌, ◌++◌, map, ◌≡◌, ltb, length, drop, set}
 use Rattle.std.proofs.Common.{append-nil, sym, ap, subst, ◌∙◌, arith, eq-eqb, ne_eqb, ltb-true, ltb-false, length-set, length-append, get_or-set_same, get_or-set_other}
 use Rattle.std.proofs.Math.Option.{Option}
 use Rattle.std.proofs.Math.Path.{refl}
@@ -26,7 +26,6 @@ use Rattle.record.proofs.Laws.{read_setup}
 use Rattle.record.proofs.Sorts.{Setup}
 use Rattle.record.proofs.Ranges.{read_ranges}
 use Rattle.bank.specs.Meaning.{Rows, component_row, gate_row, port, gate_is_set, entries, meter_is_set, group, scheduler_is_set}
-use Rattle.filter.specs.declared.Filter.{Filter}
 use Rattle.filter.specs.Meaning.{no_row, is_filter_of, row_of, is_found}
 use Rattle.verdict.specs.declared.Verdict.{Verdict}
 use Rattle.verdict.specs.declared.Verdict.TheVariants.{Refused, Taken, Passed, Dropped}

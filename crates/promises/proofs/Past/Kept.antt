@@ -1,5 +1,5 @@
 -- Over every history from fresh: what is kept is what the records taken say.
-use Rattle.std.specs.Prelude.{ℕ, zero, suc, ◌+◌, ◌*◌, ◌%◌, ◌<◌, List, [], ◌∷◌, ◌++◌, map, ◌≡◌, refl, length, get_or, take, drop}
+use Rattle.std.specs.Prelude.{ℕ, zero, suc, ◌*◌, ◌%◌, ◌<◌, List, [], ◌∷◌, ◌++◌, map, ◌≡◌, refl, length, get_or, take, drop}
 use Rattle.std.proofs.Common.{append-nil, append_assoc, ap, ◌∙◌, arith}
 use Rattle.std.proofs.Math.Option.{some}
 use Rattle.sizes.specs.Meaning.{filter_count, port_count, gate_count, meter_count, group_count, scheduler_count, entry_octets, list_octets}

@@ -16,7 +16,6 @@ use Rattle.record.specs.declared.SchedulerRecord.{SchedulerRecord}
 use Rattle.record.specs.declared.StartRecord.{StartRecord}
 use Rattle.bank.specs.Meaning.{Rows, word, is_set, component_row, port_row, gate_row, meter_row, meter_state_row, group_row, scheduler_row, component, port, with_port, entries, row_of_gate, with_gate, with_entries, with_meter, row_of_meter, row_of_meter_state, row_of_group, with_group, row_of_scheduler, with_scheduler, with_classes, row_with}
 use Rattle.bank.proofs.Laws.{is_set_back}
-use Rattle.meter.specs.declared.Meter.{Meter}
 use Rattle.setup.specs.Meaning.{with_largest, fresh_scheduler_of}
 use Rattle.promises.specs.Past.Meaning.{only, or_else, of_it, Known, overhead_in, largest_of, largest_in}
 use Rattle.promises.proofs.Past.Grows.{noted}

@@ -10,7 +10,7 @@ use Rattle.sizes.specs.Meaning.{filter_count, gate_count, group_count, scheduler
 use Rattle.logic.specs.Laws.{by_test, contrary, or_left, neither_left}
 use Rattle.record.specs.declared.FilterRecord.{FilterRecord}
 use Rattle.record.specs.declared.SchedulerRecord.{SchedulerRecord}
-use Rattle.bank.specs.Meaning.{Rows, component_row, meter_is_set, group, scheduler_is_set}
+use Rattle.bank.specs.Meaning.{Rows, component_row, meter_is_set, scheduler_is_set}
 use Rattle.filter.specs.declared.Filter.{Filter}
 use Rattle.filter.specs.declared.Asks.{Asks}
 use Rattle.filter.specs.declared.Asks.TheVariants.{Missing, ExceedsBurst}

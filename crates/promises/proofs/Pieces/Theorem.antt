@@ -1,6 +1,6 @@
 -- An input of many records may come in pieces, wherever they are cut. No octet past a record is looked at, so that only a record that is cut short
 -- has to wait, with its octets before those of the next piece: that is how `stream` hands the input of the programs on.
-use Rattle.std.specs.Prelude.{ℕ, zero, suc, ◌+◌, ◌≤◌, Bool, cond, List, [], ◌∷◌, ◌++◌, ◌≢◌, ◌≡◌, eqb, length, drop}
+use Rattle.std.specs.Prelude.{ℕ, zero, suc, ◌≤◌, Bool, cond, List, [], ◌∷◌, ◌++◌, ◌≢◌, ◌≡◌, eqb, length, drop}
 use Rattle.std.proofs.Math.Bool.{true, false}
 use Rattle.std.proofs.Math.Path.{refl, ap}
 use Rattle.std.proofs.Common.{sym, subst, ◌∙◌, arith, length-drop}
@@ -22,7 +22,6 @@ use Rattle.run.specs.Input.Meaning.{NoRefusal, Front, begins, takes, Input}
 use Rattle.promises.proofs.Refusals.Keeps.{Done, banks, lists, places, done_way, taken_uses_whole}
 use Rattle.promises.specs.Pieces.Meaning.{calls_of}
 use Rattle.promises.specs.Meaning.{Call, run_of, answers_of}
-use Rattle.record.specs.declared.Record.TheVariants as kind
 use Rattle.record.specs.declared.Reading.TheVariants as reading
 
 -- ---- no octet past the record is looked at

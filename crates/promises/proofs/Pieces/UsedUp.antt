@@ -8,7 +8,6 @@ use Rattle.sizes.specs.Meaning.{filter_count}
 use Rattle.record.specs.declared.Record.{Record}
 use Rattle.record.specs.declared.Refusal.TheVariants.{CutShort, SetUpAlready, TableLength}
 use Rattle.record.specs.Meaning.{read_of}
-use Rattle.filter.specs.declared.Filter.{Filter}
 use Rattle.filter.specs.Meaning.{is_filter_of, row_of}
 use Rattle.verdict.specs.declared.Answer.{Answer}
 use Rattle.verdict.specs.declared.Verdict.TheVariants.{Refused, Taken}

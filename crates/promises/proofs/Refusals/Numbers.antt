@@ -21,7 +21,6 @@ use Rattle.record.specs.declared.Refusal.TheVariants.{CutShort, OutOfRange, OutO
 use Rattle.record.specs.declared.Reading.{Reading}
 use Rattle.record.specs.Meaning.{body_in, Kind, kind_of, fields_of, values_at, fields_in_range, refusal_number_of, record_length, length_in, in_turn_of, read_as, read_of}
 use Rattle.bank.specs.Meaning.{Rows, component, port, entries, gate_is_set, meter_is_set, group, scheduler_is_set}
-use Rattle.filter.specs.declared.Filter.{Filter}
 use Rattle.filter.specs.declared.Found.{Found}
 use Rattle.filter.specs.Meaning.{is_filter_of, row_of, is_found, counts_of}
 use Rattle.verdict.specs.declared.Verdict.{Verdict}

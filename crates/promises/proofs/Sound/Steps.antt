@@ -10,7 +10,7 @@ use Rattle.meter.specs.Range.{InRange, in_range_back}
 use Rattle.meter.proofs.Cases.{colour_painted}
 use Rattle.scheduler.proofs.Range.{Ranged}
 use Rattle.record.specs.declared.ArrivalRecord.{ArrivalRecord}
-use Rattle.bank.specs.Meaning.{Rows, is_set, component, port, meter, scheduler, scheduler_group, group, burst}
+use Rattle.bank.specs.Meaning.{Rows, is_set, component, meter, scheduler, scheduler_group, group, burst}
 use Rattle.filter.specs.declared.Filter.{Filter}
 use Rattle.filter.specs.declared.Asks.TheVariants.{Fits}
 use Rattle.filter.specs.Meaning.{counts_of, fits_of}
