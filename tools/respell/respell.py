@@ -15,7 +15,8 @@ import sys
 
 HERE = os.path.dirname(os.path.realpath(__file__))
 TABLE = os.path.join(HERE, "table.tsv")
-SNAKE = "/opt/rattle/port/notes/2026-11-18-names-are-in-snake-case/snake.py"
+KIT = os.path.dirname(subprocess.run(["rt", "doc"], check=True, capture_output=True, text=True).stdout.strip())
+SNAKE = os.path.join(KIT, "port/notes/2026-11-18-names-are-in-snake-case/snake.py")
 # What a proof file names behind these heads is made by the prover, and keeps its spelling.
 HEADS = "goal,tie,code,c,w,l,g"
 

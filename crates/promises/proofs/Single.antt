@@ -17,20 +17,20 @@ use Rattle.run.specs.declared.Progress.{Progress}
 use Rattle.run.specs.Meaning.{Ran, ran}
 use Rattle.promises.specs.Meaning.{Call, run_of, answers_of, History, done, call}
 
--- `r ≡ fooOf ..`: what is given by value, and a table, a scheduler or the view of a part that is lent (`now table.exit ≡ ..`, `view_of r ≡ ..`)
+-- `result ≡ foo_of ..`: what is given by value, and a table, a scheduler or the view of a part that is lent (`table.new ≡ ..`, `view_of r ≡ ..`)
 pub one_value : {A : Type 0} (meaning r r' : A) → r ≡ meaning → r' ≡ meaning → r ≡ r'
 one_value meaning r r' e e' = e ∙ sym e'
 
--- `rows_of (now w.exit) ≡ withFoo ..`: the bank is an array, so that both have the same length, and its rows tell every word of it
+-- `rows_of w.new ≡ with_foo ..`: the bank is an array, so that both have the same length, and its rows tell every word of it
 pub one_bank : (meaning : Rows) (ws ws' : List ℕ) → length ws ≡ length ws' → rows_of ws ≡ meaning → rows_of ws' ≡ meaning → ws ≡ ws'
 one_bank meaning ws ws' same e e' = rows_tell ws ws' same (e ∙ sym e')
 
--- `told (rows_of (now bank.exit)) v ≡ fooOf ..`: a frame, a setup record, a start, a clear
+-- `told (rows_of bank.new) v ≡ foo_of ..`: a frame, a setup record, a start, a clear
 pub one_told : (meaning : Told) (ws ws' : List ℕ) (v v' : Verdict) → length ws ≡ length ws' → told (rows_of ws) v ≡ meaning → told (rows_of ws') v' ≡ meaning → (ws ≡ ws') × (v ≡ v')
 one_told meaning ws ws' v v' same e e' =
     (one_bank meaning.bank ws ws' same (ap (λ (t : Told). t.bank) e) (ap (λ (t : Told). t.bank) e'), one_value meaning.verdict v v' (ap (λ (t : Told). t.verdict) e) (ap (λ (t : Told). t.verdict) e'))
 
--- `listed (rows_of (now bank.exit)) (now lists.exit) v ≡ entry_of ..`: a gate entry
+-- `listed (rows_of bank.new) lists.new v ≡ entry_of ..`: a gate entry
 pub one_listed : (meaning : Listed) (ws ws' lists lists' : List ℕ) (v v' : Verdict) → length ws ≡ length ws' → listed (rows_of ws) lists v ≡ meaning → listed (rows_of ws') lists' v' ≡ meaning → (ws ≡ ws') × ((lists ≡ lists') × (v ≡ v'))
 one_listed meaning ws ws' lists lists' v v' same e e' = (
   one_bank meaning.bank ws ws' same (ap (λ (t : Listed). t.bank) e) (ap (λ (t : Listed). t.bank) e'),
@@ -45,7 +45,7 @@ one_bridge meaning table table' ws ws' lists lists' same e e' = (
   (one_bank meaning.bank ws ws' same (ap (λ (b : Bridge). b.bank) e) (ap (λ (b : Bridge). b.bank) e'), one_value meaning.lists lists lists' (ap (λ (b : Bridge). b.lists) e) (ap (λ (b : Bridge). b.lists) e')),
 )
 
--- `took (now table.exit) (rows_of (now bank.exit)) (now lists.exit) a ≡ take_of ..`: a call
+-- `took table.new (rows_of bank.new) lists.new a ≡ take_of ..`: a call
 pub take_has_one_answer : (b : Bridge) (c : Call) (table table' : List Filter) (ws ws' lists lists' : List ℕ) (a a' : Answer) → length ws ≡ length ws'
     → took table (rows_of ws) lists a ≡ take_of b c → took table' (rows_of ws') lists' a' ≡ take_of b c → ((table ≡ table') × ((ws ≡ ws') × (lists ≡ lists'))) × (a ≡ a')
 take_has_one_answer b c table table' ws ws' lists lists' a a' same e e' =
@@ -57,7 +57,7 @@ pub one_reply : (meaning : Replied) (table table' : List Filter) (ws ws' lists l
 one_reply meaning table table' ws ws' lists lists' r r' same e e' =
     (one_bridge meaning.after table table' ws ws' lists lists' same (ap (λ (o : Replied). o.after) e) (ap (λ (o : Replied). o.after) e'), one_value meaning.reply r r' (ap (λ (o : Replied). o.reply) e) (ap (λ (o : Replied). o.reply) e'))
 
--- `page (now out.exit) r ≡ written ..`: a line, with every octet of the buffer and the place after the line
+-- `page out.new result ≡ written ..`: a line, with every octet of the buffer and the place after the line
 pub one_page : (meaning : Page) (out out' : List ℕ) (r r' : ℕ) → page out r ≡ meaning → page out' r' ≡ meaning → (out ≡ out') × (r ≡ r')
 one_page meaning out out' r r' e e' =
     (one_value meaning.octets out out' (ap (λ (p : Page). p.octets) e) (ap (λ (p : Page). p.octets) e'), one_value meaning.filled r r' (ap (λ (p : Page). p.filled) e) (ap (λ (p : Page). p.filled) e'))

@@ -46,7 +46,7 @@ fn is_cut(why: Refusal) -> bool {
 fn step(input: &[u8], last: bool, p: Progress, out: &mut [u8]) -> Progress
     requires at_in_bounds { p.at ≤ length input.now }
     requires has_room { HasRoom out.old p.filled }
-    ensures at_in_bounds_2 { result.at ≤ length input.now }
+    ensures at_stays_in_bounds { result.at ≤ length input.now }
     ensures filled_bound { result.filled ≤ p.filled + record_room }
 {
     let at = p.at;
@@ -107,7 +107,7 @@ fn step(input: &[u8], last: bool, p: Progress, out: &mut [u8]) -> Progress
 // The output is written once half of its buffer is filled. Where that fails nothing more is read.
 fn emptied<W: Write>(output: &mut W, p: Progress, out: &[u8]) -> Progress
     ensures at_value { result.at ≡ p.at }
-    ensures filled_lt_half { result.filled < half }
+    ensures filled_below_half { result.filled < half }
 {
     if p.filled < HALF {
         return p;
@@ -144,10 +144,10 @@ fn print_piece<W: Write>(
     out: &mut [u8],
 ) -> Progress
     requires at_in_bounds { p.at ≤ length input.now }
-    requires filled_lt_half { p.filled < half }
+    requires filled_below_half { p.filled < half }
     requires has_room { HasRoom out.old half }
-    ensures at_in_bounds_2 { result.at ≤ length input.now }
-    ensures filled_lt_half_2 { result.filled < half }
+    ensures at_stays_in_bounds { result.at ≤ length input.now }
+    ensures filled_stays_below_half { result.filled < half }
 {
     let mut s = p;
     let mut turns = input.len();
@@ -166,7 +166,7 @@ fn turn<R: Read, W: Write>(
     buf: &mut [u8],
     out: &mut [u8],
 ) -> Progress
-    requires filled_lt_half { p.filled < half }
+    requires filled_below_half { p.filled < half }
     requires has_room { HasRoom out.old half }
     ensures { result.filled < half }
 {

@@ -48,7 +48,7 @@ module _ (b : Bridge) (a : ArrivalRecord) where
         (λ e. by_colour ipv h (eqb-false _ _ e) _ refl (painted_colour _ _ _))
 
     by_gate : AtGate b a f row → (o : GateOutcome) → (reached_of b.bank b.lists a row.gate).outcome ≡ o → Some
-    by_gate h (Open ipv) e = at_meter ipv (record { at_gate_lem = h; opens = e })
+    by_gate h (Open ipv) e = at_meter ipv (record { at_gate = h; opens = e })
     by_gate h Blocked e = (_, drop_3 f row h e)
     by_gate h Closed e = (_, drop_4 f row h e)
     by_gate h TooManyOctets e = (_, drop_5 f row h e)

@@ -137,9 +137,9 @@ module _ (b : Bridge) (a : ArrivalRecord) (ready : Ready b a) where
     abbrev t₂ : Rows
     t₂ = sdu_passed t₁ f
 
-    at_gate_lem : AtGate b a f row → OnWay a s gates_from t₂
+    at_gate : AtGate b a f row → OnWay a s gates_from t₂
     unfolding sdu_passed
-    at_gate_lem g = counted a s gates_from _ f _ (counted a s gates_from t₁ f _ (on_way g.matched.timely))
+    at_gate g = counted a s gates_from _ f _ (counted a s gates_from t₁ f _ (on_way g.matched.timely))
 
     step_3 : AtGate b a f row → arrived ≡ gated_of t₂ lists a f row
     step_3 g = step_2 g.matched ∙ sdu_passes t₁ lists a f row (unblocked_there g.unblocked) (within_test row.max_sdu a.msdu g.within)
@@ -148,13 +148,13 @@ module _ (b : Bridge) (a : ArrivalRecord) (ready : Ready b a) where
     gate_answer_lem = reached_of t₂ lists a row.gate
 
     same_gate : AtGate b a f row → gate_answer_lem ≡ reached_of s lists a row.gate
-    same_gate g = rw ((at_gate_lem g).rows (gate_row row.gate) (omega arith) (omega arith), (at_gate_lem g).rows (gate_state_row row.gate) (omega arith) (omega arith)) refl
+    same_gate g = rw ((at_gate g).rows (gate_row row.gate) (omega arith) (omega arith), (at_gate g).rows (gate_state_row row.gate) (omega arith) (omega arith)) refl
 
     abbrev t₃ : Rows
     t₃ = with_gate_state t₂ row.gate gate_answer_lem.gate
 
     past_gate : AtGate b a f row → OnWay a s meters_from t₃
-    past_gate g = goes_on a s gates_from meters_from t₂ (gate_state_row row.gate) _ (at_gate_lem g) (omega arith) (omega arith) (omega arith) (λ l. absurd (omega (arith, l))) (λ l. absurd (omega (arith, l)))
+    past_gate g = goes_on a s gates_from meters_from t₂ (gate_state_row row.gate) _ (at_gate g) (omega arith) (omega arith) (omega arith) (λ l. absurd (omega (arith, l))) (λ l. absurd (omega (arith, l)))
 
     by_gate : (g : AtGate b a f row) (o : GateOutcome) → (reached_of s lists a row.gate).outcome ≡ o → arrived ≡ gated_by t₃ a f row o
     by_gate g o e = step_3 g ∙ gated_by_lem t₂ lists a f row gate_answer_lem refl o (ap (λ x. x.outcome) (same_gate g) ∙ e)
@@ -174,7 +174,7 @@ module _ (b : Bridge) (a : ArrivalRecord) (ready : Ready b a) where
 
     step_4 : (ipv : ℕ) → AtMeter b a f row ipv → arrived ≡ metered_of t₄ a f row (internal_of ipv a.priority)
     unfolding gated_by
-    step_4 ipv m = by_gate m.at_gate_lem (Open ipv) m.opens
+    step_4 ipv m = by_gate m.at_gate (Open ipv) m.opens
 
     abbrev meter_answer : Metered
     meter_answer = coloured_of t₄ a row.meter
@@ -208,7 +208,7 @@ module _ (b : Bridge) (a : ArrivalRecord) (ready : Ready b a) where
         }
 
     pub by_meter : (ipv : ℕ) (m : AtMeter b a f row ipv) → row.meter ≢ 255 → (o : Outcome) → colour_at b a row.meter ≡ o → arrived ≡ metered_by t₅ a f row (internal_of ipv a.priority) o
-    by_meter ipv m n o e = step_4 ipv m ∙ metered_by_lem t₄ a f row (internal_of ipv a.priority) n meter_answer refl o (colour_is m.at_gate_lem ∙ e)
+    by_meter ipv m n o e = step_4 ipv m ∙ metered_by_lem t₄ a f row (internal_of ipv a.priority) n meter_answer refl o (colour_is m.at_gate ∙ e)
 
     red_sound : AtGate b a f row → Sound (red_counted t₅ f)
     unfolding red_counted
@@ -225,14 +225,14 @@ module _ (b : Bridge) (a : ArrivalRecord) (ready : Ready b a) where
   pub step_5 : (f : ℕ) (row : Filter) (ipv mark : ℕ) → AtMeter b a f row ipv → Marked b a row mark → Past row (internal_of ipv a.priority) mark
   unfolding metered_by
   step_5 f row ipv mark m (unmetered e) =
-      let w = at_meter f row m.at_gate_lem in
+      let w = at_meter f row m.at_gate in
       record {
         bank = t₄ f row;
         on_its_way = record { sound = w.sound; clock = w.clock; classes = w.classes; ports = w.ports; rows = λ q l. w.rows q (omega (arith, l)) };
         goes = step_4 f row ipv m ∙ metered_none (t₄ f row) a f row (internal_of ipv a.priority) e;
       }
-  step_5 f row ipv mark m (green n e) = record { bank = t₅ f row; on_its_way = past_meter f row m.at_gate_lem; goes = by_meter f row ipv m n Green e }
-  step_5 f row ipv mark m (yellow n e) = record { bank = t₅ f row; on_its_way = past_meter f row m.at_gate_lem; goes = by_meter f row ipv m n Yellow e }
+  step_5 f row ipv mark m (green n e) = record { bank = t₅ f row; on_its_way = past_meter f row m.at_gate; goes = by_meter f row ipv m n Green e }
+  step_5 f row ipv mark m (yellow n e) = record { bank = t₅ f row; on_its_way = past_meter f row m.at_gate; goes = by_meter f row ipv m n Yellow e }
 
   abbrev Answers : Verdict → Told → Type 0
   Answers v t = (t.verdict ≡ v) × Sound t.bank
@@ -300,8 +300,8 @@ module _ (b : Bridge) (a : ArrivalRecord) (ready : Ready b a) where
   told_given v (drop_3 f row g e) = rw (by_gate f row g Blocked e) (refl, shut_sound f row g)
   told_given v (drop_4 f row g e) = rw (by_gate f row g Closed e) (refl, shut_sound f row g)
   told_given v (drop_5 f row g e) = rw (by_gate f row g TooManyOctets e) (refl, shut_sound f row g)
-  told_given v (drop_6 m) = rw (by_meter m.filter m.row m.ipv m.at_meter m.named YellowDropped m.coloured) (refl, red_sound m.filter m.row m.at_meter.at_gate_lem)
-  told_given v (drop_7 m) = rw (by_meter m.filter m.row m.ipv m.at_meter m.named Red m.coloured) (refl, red_sound m.filter m.row m.at_meter.at_gate_lem)
+  told_given v (drop_6 m) = rw (by_meter m.filter m.row m.ipv m.at_meter m.named YellowDropped m.coloured) (refl, red_sound m.filter m.row m.at_meter.at_gate)
+  told_given v (drop_7 m) = rw (by_meter m.filter m.row m.ipv m.at_meter m.named Red m.coloured) (refl, red_sound m.filter m.row m.at_meter.at_gate)
   told_given v (unscheduled f row ipv mark m e) =
       let p = step_5 f row ipv mark m.at_meter m.marked in
       rw (p.goes, scheduled_none p.bank a row (internal_of ipv a.priority) mark e)

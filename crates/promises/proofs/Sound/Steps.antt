@@ -77,12 +77,12 @@ module _ (b : Bridge) (a : ArrivalRecord) (ready : Ready b a) where
     j = scheduler_group s i
 
     counts : counts_of s row ≡ true
-    counts = row_counts f row there.past_meter.at_meter.at_gate_lem.matched
+    counts = row_counts f row there.past_meter.at_meter.at_gate.matched
 
     -- the max SDU holds the MSDU, the burst the max SDU with the largest overhead
     pub length_high : (charged_of s a).0 ≤ (burst s i).0
     length_high =
-        let msdu = there.past_meter.at_meter.at_gate_lem.within (counts_max_sdu s row counts there.named) in
+        let msdu = there.past_meter.at_meter.at_gate.within (counts_max_sdu s row counts there.named) in
         omega (arith, msdu, ready.sound.ports a.port, counts_holds s row counts there.named)
 
     pub scheduler_in_range_lem : Ranged (scheduler s i) (group s j).last (group s j).residence a.time (charged_of s a)

@@ -154,12 +154,12 @@ module _ (b : Bridge) (reached : Reached b) (whole : length b.table ≡ filter_c
   pub meter_refuses_none : (f : ℕ) (row : Filter) (ipv : ℕ) → AtMeter b a f row ipv → ((coloured_of b.bank a row.meter).outcome ≢ OutOfRange) × ((coloured_of b.bank a row.meter).outcome ≢ TooEarly)
   meter_refuses_none f row ipv m = (
     λ q. contrary _ (in_range_back _ _ _ (meter_in_range_lem b a ready row.meter)) (colour_refused_3 (meter b.bank row.meter) a.time _ _ (ap meter_number_of q)).1,
-    λ q. let early = colour_refused_9 (meter b.bank row.meter) a.time _ _ (ap meter_number_of q) in omega (arith, early.1.1, m.at_gate_lem.matched.timely, (ready.sound.meters row.meter).last_high),
+    λ q. let early = colour_refused_9 (meter b.bank row.meter) a.time _ _ (ap meter_number_of q) in omega (arith, early.1.1, m.at_gate.matched.timely, (ready.sound.meters row.meter).last_high),
   )
 
   -- the path goes on by that very answer
   pub meter_on_path : (f : ℕ) (row : Filter) (ipv : ℕ) → AtMeter b a f row ipv → row.meter ≢ 255 → (s : Rows) × (handled ≡ metered_by s a f row (internal_of ipv a.priority) (coloured_of b.bank a row.meter).outcome)
-  meter_on_path f row ipv m n = (t₅ b a ready f row, by_meter b a ready f row ipv m n _ (ap (λ x. x.outcome) (sym (coloured_is b a ready m.at_gate_lem.matched.timely row.meter))))
+  meter_on_path f row ipv m n = (t₅ b a ready f row, by_meter b a ready f row ipv m n _ (ap (λ x. x.outcome) (sym (coloured_is b a ready m.at_gate.matched.timely row.meter))))
 
   module _ (f : ℕ) (row : Filter) (ipv mark : ℕ) (there : AtScheduler b a f row ipv mark) where
     abbrev i : ℕ

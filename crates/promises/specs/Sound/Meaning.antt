@@ -70,7 +70,7 @@ module _ (b : Bridge) (a : ArrivalRecord) where
 
   -- 3: the gate lets it through with its IPV
   pub record AtMeter (f : ℕ) (row : Filter) (ipv : ℕ) : Type 0 where
-    pub at_gate_lem : AtGate f row
+    pub at_gate : AtGate f row
     pub opens : (reached_of b.bank b.lists a row.gate).outcome ≡ Open ipv
 
   -- 4: the drop mark with which it goes on: its own, unless it is yellow

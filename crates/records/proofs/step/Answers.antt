@@ -16,8 +16,8 @@ returns-else-is_cut-last-clause-filled_bound c =
     let short : (n : ℕ) → n ≤ line_room → n ≤ record_room = λ (n : ℕ). λ (l : n ≤ line_room). omega arith in
     written_ends _ _ record_room (page _ c.args.p.filled) _ c.put_refused-end.ensures (short _ (refused_room _ _ (search rules) (search rules)))
 
-pub returns-in-Taken-clause-at_in_bounds_2 : goal.returns-in-Taken-clause-at_in_bounds_2
-returns-in-Taken-clause-at_in_bounds_2 c =
+pub returns-in-Taken-clause-at_stays_in_bounds : goal.returns-in-Taken-clause-at_stays_in_bounds
+returns-in-Taken-clause-at_stays_in_bounds c =
     inside c.args.input.now c.args.p.at c.args.p.started c.in-Taken.r c.in-Taken.used c.requires.at_in_bounds (sym c.read.ensures ∙ c.in-Taken.is)
 
 pub returns-in-Taken-clause-filled_bound : goal.returns-in-Taken-clause-filled_bound
