@@ -1,19 +1,18 @@
 -- Wrong machines against the promises: each breaks one, shown on octets. A promise is stated here for any machine; that it is the promise is seen
 -- from the line below it, where the theorem of that name gives it for `take_of`.
-use Rattle.std.specs.Prelude.{ℕ, ◌%◌, ◌<◌, cond, not, true, false, ◌&&◌, List, [], ◌∷◌, ◌++◌, ◌≡◌, refl, eqb, ltb, length}
+use Rattle.std.specs.Prelude.{ℕ, ◌%◌, ◌<◌, cond, not, true, false, ◌&&◌, List, [], ◌∷◌, ◌++◌, ◌≡◌, refl, eqb, ltb, length, Ok, Err, None, Some}
 use Rattle.std.proofs.Common.{sym, ap, ◌∙◌, arith}
 use Rattle.sizes.specs.Meaning.{filter_count}
 use Rattle.logic.specs.Laws.{never}
 use Rattle.record.specs.declared.ArrivalRecord.{ArrivalRecord}
-use Rattle.record.specs.declared.Reading.{Reading}
+use Rattle.record.specs.Meaning.{Reading}
 use Rattle.record.specs.declared.Refusal.TheVariants.{OutOfRange}
 use Rattle.record.specs.Meaning.{read_as, read_of, of_arrival}
 use Rattle.bank.specs.Meaning.{with_row, component, counters, with_oversize}
-use Rattle.filter.specs.declared.Asks.TheVariants.{Fits}
-use Rattle.filter.specs.declared.Found.{Found}
-use Rattle.filter.specs.declared.Found.TheVariants.{Nothing, At}
+use Rattle.filter.specs.Meaning.{Fits}
+use Rattle.filter.specs.Meaning.{Found}
 use Rattle.filter.specs.Meaning.{row_in_range, is_filter_of, names_missing, exceeds_burst, counts_of, fits_of, row_answers, search_of}
-use Rattle.verdict.specs.declared.Verdict.TheVariants.{Passed}
+use Rattle.verdict.specs.Meaning.{Passed}
 use Rattle.setup.specs.Meaning.{refused_if, set_gate_of, some_of, start_of, clear_oversize_of, clear_of}
 use Rattle.path.specs.Meaning.{sdu_failed, sdu_filtered_of, arrival_of}
 use Rattle.stage.specs.Meaning.{Bridge, Took, took, key_of, first_row, answered, refused_of, taken_of, read_by, take_of}
@@ -25,7 +24,6 @@ use Rattle.promises.proofs.Counters.Runs.{matching_counted}
 use Rattle.promises.specs.Flags.Meaning.{clears}
 use Rattle.promises.proofs.Flags.Oversize.{oversize_stands}
 use Rattle.promises.proofs.Flags.Lifted.{oversize_lifted}
-use Rattle.record.specs.declared.Reading.TheVariants as reading
 
 -- what a call does
 abbrev pub Machine : Type 0
@@ -138,13 +136,13 @@ take_stands : Stands take_of
 take_stands = oversize_stands
 
 abbrev lifted : Took → ArrivalRecord → Found → Took
-lifted o a Nothing = o
-lifted o a (At f row) =
+lifted o a None = o
+lifted o a (Some (f, row)) =
     cond (not (eqb row.max_sdu 0) && ltb row.max_sdu a.msdu) o (took o.after.table (with_oversize o.after.bank f false) o.after.lists o.answer)
 
 abbrev lifted_by : Bridge → Took → Reading → Took
-lifted_by b o (reading.Refused why) = o
-lifted_by b o (reading.Taken r used) = of_arrival (λ a. lifted o a (first_row b Fits (key_of a))) o r
+lifted_by b o (Err why) = o
+lifted_by b o (Ok (r, used)) = of_arrival (λ a. lifted o a (first_row b Fits (key_of a))) o r
 
 abbrev pub good_lifts : Machine
 good_lifts b c = lifted_by b (take_of b c) (reading_of b c)

@@ -5,8 +5,8 @@ use Rattle.std.proofs.Common.{sym, ap, ◌∙◌}
 use Rattle.bank.specs.Meaning.{Rows, rows_of}
 use Rattle.bank.proofs.Rows.{rows_tell}
 use Rattle.filter.specs.declared.Filter.{Filter}
-use Rattle.verdict.specs.declared.Verdict.{Verdict}
-use Rattle.verdict.specs.declared.Answer.{Answer}
+use Rattle.verdict.specs.Meaning.{Verdict}
+use Rattle.verdict.specs.Meaning.{Answer}
 use Rattle.verdict.specs.Meaning.{Told, told}
 use Rattle.setup.specs.Meaning.{Listed, listed}
 use Rattle.stage.specs.Meaning.{Bridge, Took, bridge, took, take_of}

@@ -1,6 +1,6 @@
 -- Every way that a call can go, and the one induction over the ways of a frame: what holds of the bank before each step of the path holds after
 -- it, and so of what the frame is told. The promises on flags and counters cite it, and say only what each store keeps.
-use Rattle.std.specs.Prelude.{ℕ, Bool, true, false, not, cond, ◌&&◌, ◌||◌, List, ◌≡◌, eqb, length}
+use Rattle.std.specs.Prelude.{ℕ, Bool, true, false, not, cond, ◌&&◌, ◌||◌, List, ◌≡◌, eqb, length, Ok, Err, None, Some}
 use Rattle.std.proofs.Math.Path.{refl}
 use Rattle.std.proofs.Common.{sym, ap, ◌∙◌, eqb-true}
 use Rattle.std.proofs.Math.Dec.{ltb}
@@ -17,20 +17,18 @@ use Rattle.record.specs.declared.Record.{Record}
 use Rattle.record.specs.declared.ArrivalRecord.{ArrivalRecord}
 use Rattle.record.specs.declared.Refusal.{Refusal}
 use Rattle.record.specs.declared.Refusal.TheVariants.{TableLength, TimeGoesBack}
-use Rattle.record.specs.declared.Reading.{Reading}
+use Rattle.record.specs.Meaning.{Reading}
 use Rattle.bank.proofs.Laws.{bump_same}
 use Rattle.bank.specs.declared.Counter.{Counter}
 use Rattle.bank.specs.declared.Counter.TheVariants.{Matching, PassingSdu, NotPassingSdu, Passing, NotPassing, Red as RedFrames}
 use Rattle.verdict.specs.declared.Drop.{Drop}
-use Rattle.record.specs.declared.Reading.TheVariants as reading
 use Rattle.record.specs.Meaning.{read_of}
 use Rattle.bank.specs.Meaning.{Rows, component, with_clock, counters, with_gate_state, with_meter_state, with_scheduler_state, with_group_last, bump, with_oversize, with_discarded, counters_in}
 use Rattle.filter.specs.declared.Filter.{Filter}
-use Rattle.filter.specs.declared.Found.{Found}
-use Rattle.filter.specs.declared.Found.TheVariants.{Nothing, At}
+use Rattle.filter.specs.Meaning.{Found}
 use Rattle.verdict.specs.declared.Drop.TheVariants as drop
 use Rattle.verdict.specs.declared.Pass.{Pass}
-use Rattle.verdict.specs.declared.Verdict.TheVariants.{Refused, Passed, Dropped}
+use Rattle.verdict.specs.Meaning.{Refused, Passed, Dropped}
 use Rattle.verdict.specs.Meaning.{Told, told}
 use Rattle.path.specs.Meaning.{pass_of, sdu_passed, sdu_failed, gate_passed, gate_failed, red_counted, discard_counted, scheduled_by, scheduled_of, coloured_of, metered_by, metered_of, reached_of, gated_by, gated_of, sdu_filtered_of, arrival_of}
 use Rattle.stage.specs.Meaning.{Bridge, Took, refused_of, taken_of, read_by, started_of, take_of}
@@ -183,13 +181,13 @@ module _ (lists : List ℕ) (a : ArrivalRecord) (f : ℕ) (row : Filter) where
 
 pub record Arrives (s : Rows) (lists : List ℕ) (a : ArrivalRecord) (found : Found) (Q : Told → Type 0) : Type 0 where
   pub back : ltb a.time (component s).clock ≡ true → Q (told s (Refused TimeGoesBack))
-  pub unmatched : ltb a.time (component s).clock ≡ false → (p : Pass) → found ≡ Nothing → Q (told (ticked s a) (Passed p))
-  pub matched : ltb a.time (component s).clock ≡ false → (f : ℕ) (row : Filter) → found ≡ At f row → Q (sdu_filtered_of (ticked s a) lists a f row)
+  pub unmatched : ltb a.time (component s).clock ≡ false → (p : Pass) → found ≡ None → Q (told (ticked s a) (Passed p))
+  pub matched : ltb a.time (component s).clock ≡ false → (f : ℕ) (row : Filter) → found ≡ Some (f, row) → Q (sdu_filtered_of (ticked s a) lists a f row)
 
 pub arrived_along : (s : Rows) (lists : List ℕ) (a : ArrivalRecord) (found : Found) (Q : Told → Type 0) → Arrives s lists a found Q → Q (arrival_of s lists a found)
 unfolding arrival_of pass_of
-arrived_along s lists a Nothing Q all = if_by Q (ltb a.time (component s).clock) _ _ all.back (λ e. all.unmatched e _ refl)
-arrived_along s lists a (At f row) Q all = if_by Q (ltb a.time (component s).clock) _ _ all.back (λ e. all.matched e f row refl)
+arrived_along s lists a None Q all = if_by Q (ltb a.time (component s).clock) _ _ all.back (λ e. all.unmatched e _ refl)
+arrived_along s lists a (Some (f, row)) Q all = if_by Q (ltb a.time (component s).clock) _ _ all.back (λ e. all.matched e f row refl)
 
 -- what the clock and every store of a frame's path keep, an arrival keeps
 pub arrived_keeps : (P : Rows → Type 0) (s : Rows) (lists : List ℕ) (a : ArrivalRecord) (found : Found) → P s → P (ticked s a) → ((f : ℕ) (row : Filter) → Kept lists a f row P) → P (arrival_of s lists a found).bank
@@ -200,13 +198,13 @@ arrived_keeps P s lists a found h h' all =
 
 pub data Called (b : Bridge) (input : List ℕ) : Took → Type 0 where
   unread : (why : Refusal) → Called b input (refused_of b why)
-  read : (r : Record) (used : ℕ) → length b.table ≡ filter_count → read_of input (started_of b.bank) ≡ reading.Taken r used → Called b input (taken_of b input r used)
+  read : (r : Record) (used : ℕ) → length b.table ≡ filter_count → read_of input (started_of b.bank) ≡ Ok (r, used) → Called b input (taken_of b input r used)
 
 module _ (b : Bridge) (input : List ℕ) where
   called_reading : length b.table ≡ filter_count → (rd : Reading) → read_of input (started_of b.bank) ≡ rd → Called b input (read_by b input rd)
   unfolding read_by
-  called_reading full (reading.Refused why) e = unread why
-  called_reading full (reading.Taken r used) e = read r used full e
+  called_reading full (Err why) e = unread why
+  called_reading full (Ok (r, used)) e = read r used full e
 
   called_table : (t : Bool) → eqb (length b.table) filter_count ≡ t → Called b input (cond t (read_by b input (read_of input (started_of b.bank))) (refused_of b TableLength))
   called_table true e = called_reading (eqb-true _ _ e) _ refl

@@ -6,7 +6,7 @@ use Rattle.std.proofs.Math.Path.{fun_ext}
 use Rattle.sizes.specs.Meaning.{filter_count, lists_octets, row_words}
 use Rattle.bank.specs.Meaning.{Rows, bank_words, load, rows_of}
 use Rattle.filter.specs.Meaning.{no_row}
-use Rattle.verdict.specs.declared.Answer.{Answer}
+use Rattle.verdict.specs.Meaning.{Answer}
 use Rattle.stage.specs.Meaning.{Bridge, bridge}
 use Rattle.promises.specs.Meaning.{Call, run_of, answers_of, repeated, no_words, fresh, History}
 use Rattle.promises.proofs.Single.{history_is_run}

@@ -1,18 +1,16 @@
 -- Histories: calls one after another on one bridge, and what each of them did.
-use Rattle.std.specs.Prelude.{ℕ, zero, suc, List, [], ◌∷◌, ◌≡◌}
+use Rattle.std.specs.Prelude.{ℕ, zero, suc, List, [], ◌∷◌, ◌≡◌, Ok, Err, None}
 use Rattle.sizes.specs.Meaning.{filter_count, lists_octets}
 use Rattle.record.specs.declared.Record.{Record}
-use Rattle.record.specs.declared.Reading.{Reading}
+use Rattle.record.specs.Meaning.{Reading}
 use Rattle.record.specs.Meaning.{read_of, of_arrival}
 use Rattle.bank.specs.Meaning.{Rows}
-use Rattle.filter.specs.declared.Asks.TheVariants.{Fits}
-use Rattle.filter.specs.declared.Found.{Found}
-use Rattle.filter.specs.declared.Found.TheVariants.{Nothing}
+use Rattle.filter.specs.Meaning.{Fits}
+use Rattle.filter.specs.Meaning.{Found}
 use Rattle.filter.specs.Meaning.{no_row}
-use Rattle.verdict.specs.declared.Verdict.{Verdict}
-use Rattle.verdict.specs.declared.Answer.{Answer}
+use Rattle.verdict.specs.Meaning.{Verdict}
+use Rattle.verdict.specs.Meaning.{Answer}
 use Rattle.stage.specs.Meaning.{Bridge, bridge, key_of, first_row, started_of, take_of, took}
-use Rattle.record.specs.declared.Reading.TheVariants as reading
 
 -- a call is the octet string that it is given
 abbrev pub Call : Type 0
@@ -49,11 +47,11 @@ pub record Event : Type 0 where
   pub verdict : Verdict
 
 abbrev pub used_by : Bridge → Record → Found
-used_by b = of_arrival (λ a. first_row b Fits (key_of a)) Nothing
+used_by b = of_arrival (λ a. first_row b Fits (key_of a)) None
 
 abbrev pub filter_in : Bridge → Reading → Found
-filter_in b (reading.Refused why) = Nothing
-filter_in b (reading.Taken r used) = used_by b r
+filter_in b (Err why) = None
+filter_in b (Ok (r, used)) = used_by b r
 
 abbrev pub reading_of : Bridge → Call → Reading
 reading_of b c = read_of c (started_of b.bank)

@@ -1,5 +1,5 @@
 -- One call on two bridges.
-use Rattle.std.specs.Prelude.{ℕ, Bool, true, false, List, ◌≡◌, eqb, length}
+use Rattle.std.specs.Prelude.{ℕ, Bool, true, false, List, ◌≡◌, eqb, length, Ok, Err}
 use Rattle.std.proofs.Math.Path.{refl}
 use Rattle.std.proofs.Common.{sym, ap, subst, ◌∙◌, arith, eqb-true}
 use Rattle.sizes.specs.Meaning.{filter_count}
@@ -7,8 +7,7 @@ use Rattle.record.specs.declared.Record.{Record}
 use Rattle.record.specs.declared.Record.TheVariants as kind
 use Rattle.record.specs.declared.Refusal.{Refusal}
 use Rattle.record.specs.declared.Refusal.TheVariants.{TableLength}
-use Rattle.record.specs.declared.Reading.{Reading}
-use Rattle.record.specs.declared.Reading.TheVariants as reading
+use Rattle.record.specs.Meaning.{Reading}
 use Rattle.record.specs.Meaning.{read_of}
 use Rattle.record.proofs.Sorts.{Sort, setup, arrival, clear, sort_of}
 use Rattle.record.proofs.Laws.{read_in_turn, read_setup}
@@ -27,11 +26,11 @@ module _ (b : Bridge) (c : List ℕ) where
   unfolding take_of
   take_table e = rw e refl
 
-  pub take_refused : (why : Refusal) → eqb (length b.table) filter_count ≡ true → read_of c (started_of b.bank) ≡ reading.Refused why → take_of b c ≡ refused_of b why
+  pub take_refused : (why : Refusal) → eqb (length b.table) filter_count ≡ true → read_of c (started_of b.bank) ≡ Err why → take_of b c ≡ refused_of b why
   unfolding take_of read_by
   take_refused why e h = rw (e, h) refl
 
-  pub take_taken : (r : Record) (used : ℕ) → eqb (length b.table) filter_count ≡ true → read_of c (started_of b.bank) ≡ reading.Taken r used → take_of b c ≡ taken_of b c r used
+  pub take_taken : (r : Record) (used : ℕ) → eqb (length b.table) filter_count ≡ true → read_of c (started_of b.bank) ≡ Ok (r, used) → take_of b c ≡ taken_of b c r used
   unfolding take_of read_by
   take_taken r used e h = rw (e, h) refl
 
@@ -54,7 +53,7 @@ module _ (g : ℕ) (b : Bridge) (s' : Rows) (strong : Strong g b (bridge b.table
   refused_ahead why e e' _ _ = rw (e, e') (record { used = refl; verdicts = same refl; after = strong })
 
   module _ (whole : eqb (length b.table) filter_count ≡ true) where
-    by_sort : (r : Record) (used : ℕ) → read_of c (started_of b.bank) ≡ reading.Taken r used → Sort r → Goal
+    by_sort : (r : Record) (used : ℕ) → read_of c (started_of b.bank) ≡ Ok (r, used) → Sort r → Goal
     by_sort r used e (setup h) together spared =
         let st = read_setup c (started_of b.bank) r used e h in
         let is = take_taken b c r used whole e in
@@ -80,8 +79,8 @@ module _ (g : ℕ) (b : Bridge) (s' : Rows) (strong : Strong g b (bridge b.table
         rw (is, is') (clear_ahead g b s' strong.banks (strong.checked st) c used x)
 
     by_reading : (rd : Reading) → read_of c (started_of b.bank) ≡ rd → Goal
-    by_reading (reading.Refused why) e = refused_ahead why (take_refused b c why whole e) (take_refused b' c why whole (ap (read_of c) (sym same_start) ∙ e))
-    by_reading (reading.Taken r used) e = by_sort r used e (sort_of r)
+    by_reading (Err why) e = refused_ahead why (take_refused b c why whole e) (take_refused b' c why whole (ap (read_of c) (sym same_start) ∙ e))
+    by_reading (Ok (r, used)) e = by_sort r used e (sort_of r)
 
   call_core : Goal
   call_core = by_table (eqb (length b.table) filter_count) refl
@@ -138,7 +137,7 @@ module _ (g : ℕ) (b : Bridge) (s' : Rows) (weak : Weak g b (bridge b.table s' 
   refused_loose why e e' _ = rw (e, e') (record { answers = λ _. refl; after = weak })
 
   module _ (whole : eqb (length b.table) filter_count ≡ true) where
-    loose_sort : (r : Record) (used : ℕ) → read_of c (started_of b.bank) ≡ reading.Taken r used → Sort r → Wanted
+    loose_sort : (r : Record) (used : ℕ) → read_of c (started_of b.bank) ≡ Ok (r, used) → Sort r → Wanted
     loose_sort r used e (setup h) together =
         let st = read_setup c (started_of b.bank) r used e h in
         let is = take_taken b c r used whole e in
@@ -162,8 +161,8 @@ module _ (g : ℕ) (b : Bridge) (s' : Rows) (weak : Weak g b (bridge b.table s' 
         rw (is, is') (clear_loose g b s' weak.banks st (weak.checked st) c used (Framed g b c) x)
 
     loose_reading : (rd : Reading) → read_of c (started_of b.bank) ≡ rd → Wanted
-    loose_reading (reading.Refused why) e = refused_loose why (take_refused b c why whole e) (take_refused second c why whole (ap (read_of c) (sym start_same) ∙ e))
-    loose_reading (reading.Taken r used) e = loose_sort r used e (sort_of r)
+    loose_reading (Err why) e = refused_loose why (take_refused b c why whole e) (take_refused second c why whole (ap (read_of c) (sym start_same) ∙ e))
+    loose_reading (Ok (r, used)) e = loose_sort r used e (sort_of r)
 
   loose_core : Wanted
   loose_core = by_table (eqb (length b.table) filter_count) refl

@@ -11,7 +11,7 @@ use Rattle.record.specs.declared.Refusal.TheVariants.{NotSetUp}
 use Rattle.bank.specs.Meaning.{Rows, with_row, word, is_set, gate_state_row, meter_state_row, row_of_gate_state, row_of_meter_state, gate_is_set, component_row}
 use Rattle.filter.specs.declared.Filter.{Filter}
 use Rattle.filter.specs.Meaning.{counts_of}
-use Rattle.verdict.specs.declared.Verdict.TheVariants.{Refused, Taken}
+use Rattle.verdict.specs.Meaning.{Refused, Taken}
 use Rattle.verdict.specs.Meaning.{Told, told}
 use Rattle.setup.specs.Meaning.{refused_if, with_flags, red_low, clear_oversize_of, clear_invalid_receive_of, clear_octets_of, clear_red_of, clear_of}
 use Rattle.promises.proofs.Bursts.Pairs.{Asked, Constants, At, Over, put, outer_same, Outer}

@@ -17,11 +17,11 @@ use Rattle.record.proofs.Ranges.{Ranged}
 use Rattle.bank.specs.Meaning.{Rows, word, is_set, component_row, port_row, scheduler_row, component, entries, scheduler_in, with_classes}
 use Rattle.bank.proofs.Rows.{row_same, row_other}
 use Rattle.filter.specs.declared.Filter.{Filter}
-use Rattle.filter.specs.declared.Found.{Found}
-use Rattle.filter.specs.declared.Asks.TheVariants as asks
+use Rattle.filter.specs.Meaning.{Found}
+use Rattle.filter.specs.Meaning as asks
 use Rattle.filter.specs.Meaning.{is_filter_of, row_of, is_found}
-use Rattle.verdict.specs.declared.Verdict.TheVariants.{Taken}
-use Rattle.verdict.specs.declared.Answer.{Answer}
+use Rattle.verdict.specs.Meaning.{Taken}
+use Rattle.verdict.specs.Meaning.{Answer}
 use Rattle.verdict.specs.Meaning.{Told, told}
 use Rattle.setup.specs.Meaning.{Listed, refused_if, set_port_of, set_gate_of, add_entry_of, set_meter_of, set_group_of, set_scheduler_of, incomplete_of, start_of}
 use Rattle.setup.proofs.Cases.{refused_by}

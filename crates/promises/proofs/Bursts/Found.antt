@@ -1,5 +1,5 @@
 -- The two banks find the same rows of the filter table. Of the bursts a search asks only whether a row exceeds one: a table that passed the start of the first run has no such row, nor then for a larger burst.
-use Rattle.std.specs.Prelude.{ℕ, ◌+◌, ◌≤◌, Bool, ◌&&◌, ◌||◌, List, ◌≡◌, eqb, length}
+use Rattle.std.specs.Prelude.{ℕ, ◌+◌, ◌≤◌, Bool, ◌&&◌, ◌||◌, List, ◌≡◌, eqb, length, None, Some}
 use Rattle.std.proofs.Math.Bool.{true, false, not}
 use Rattle.std.proofs.Common.{true≢false, sym, ap, ◌∙◌, arith, ltb-true, ltb-false, le-ltb}
 use Rattle.std.proofs.Math.Path.{refl, subst}
@@ -11,12 +11,11 @@ use Rattle.sizes.specs.Meaning.{filter_count}
 use Rattle.bank.specs.declared.Component.{Component}
 use Rattle.bank.specs.Meaning.{Rows, word, is_set, component_row, scheduler_row, scheduler_in, gate_is_set, meter_is_set, scheduler_is_set, burst, component}
 use Rattle.filter.specs.declared.Filter.{Filter}
-use Rattle.filter.specs.declared.Asks.{Asks}
-use Rattle.filter.specs.declared.Asks.TheVariants.{Fits, Missing, ExceedsBurst}
+use Rattle.filter.specs.Meaning.{Asks}
+use Rattle.filter.specs.Meaning.{Fits, Missing, ExceedsBurst}
 use Rattle.filter.specs.declared.Key.{Key}
-use Rattle.filter.specs.declared.Question.{Question}
-use Rattle.filter.specs.declared.Found.{Found}
-use Rattle.filter.specs.declared.Found.TheVariants.{Nothing, At}
+use Rattle.filter.specs.Meaning.{Question}
+use Rattle.filter.specs.Meaning.{Found}
 use Rattle.filter.specs.Meaning.{no_row, is_filter_of, names_missing, exceeds_burst, counts_of, fits_of, row_of, search_of, is_found}
 use Rattle.filter.proofs.Laws.{answers_asked}
 use Rattle.filter.proofs.SearchLaws.{search_alike, search_nothing}
@@ -93,9 +92,9 @@ both_false : (t e : Bool) → (t && e) ≡ false → t ≡ true → e ≡ false
 both_false true e h k = h
 both_false false e h k = absurd (true≢false (sym k))
 
-nothing_found : (f : Found) → is_found f ≡ false → f ≡ Nothing
-nothing_found Nothing e = refl
-nothing_found (At i row) e = absurd (true≢false e)
+nothing_found : (f : Found) → is_found f ≡ false → f ≡ None
+nothing_found None e = refl
+nothing_found (Some (i, row)) e = absurd (true≢false e)
 
 abbrev exceeding : Question
 exceeding = record { from = 0; to = filter_count; asks = ExceedsBurst; key = no_key }

@@ -1,5 +1,5 @@
 -- Steps 1 to 4 of a frame's path on two banks that are equal outside a group: what holds of step 5 on both holds of the whole path on both.
-use Rattle.std.specs.Prelude.{ℕ, ◌%◌, ◌<◌, ◌^◌, Bool, true, false, not, ◌&&◌, ◌||◌, cond, List, ◌≡◌, refl}
+use Rattle.std.specs.Prelude.{ℕ, ◌%◌, ◌<◌, ◌^◌, Bool, true, false, not, ◌&&◌, ◌||◌, cond, List, ◌≡◌, refl, None, Some}
 use Rattle.std.proofs.Math.Path.{ap, subst}
 use Rattle.std.proofs.Common.{◌∙◌, arith}
 use Rattle.std.proofs.Math.Dec.{ltb, eqb}
@@ -23,11 +23,10 @@ use Rattle.bank.specs.declared.Counters.{Counters}
 use Rattle.bank.specs.declared.Component.{Component}
 use Rattle.bank.specs.Meaning.{Rows, with_row, is_set, component_row, counters_row, gate_row, gate_state_row, meter_row, meter_state_row, counters_in, component_in, gate_in, meter_in, row_of_gate_state, row_of_meter_state, component, counters, gate, with_gate_state, meter, with_meter_state, word, row_with, counter_place, one_more, bump, with_oversize, with_clock}
 use Rattle.filter.specs.declared.Filter.{Filter}
-use Rattle.filter.specs.declared.Found.{Found}
-use Rattle.filter.specs.declared.Found.TheVariants.{Nothing, At as Hit}
+use Rattle.filter.specs.Meaning.{Found}
 use Rattle.verdict.specs.declared.Drop.TheVariants as drop
-use Rattle.verdict.specs.declared.Verdict.{Verdict}
-use Rattle.verdict.specs.declared.Verdict.TheVariants.{Refused, Passed, Dropped}
+use Rattle.verdict.specs.Meaning.{Verdict}
+use Rattle.verdict.specs.Meaning.{Refused, Passed, Dropped}
 use Rattle.verdict.specs.Meaning.{Told, told}
 use Rattle.path.specs.Meaning.{class_in, pass_of, sdu_passed, sdu_failed, gate_passed, gate_failed, red_counted, scheduled_of, coloured_of, metered_by, metered_of, internal_of, list_of, reached_of, gated_by, gated_of, sdu_filtered_of, matched_of, arrival_of}
 use Rattle.promises.proofs.Bursts.Pairs.{Asked, Constants, At, Over, put, outer_same, component_pair, Outer}
@@ -122,10 +121,10 @@ module _ (k : Asked) (z : Constants) (g : ℕ) (Q : Told → Told → Type 0) (s
       (component_both k z g s s' o)
       (cond_both Q (ltb a.time (component s).clock) _ _ _ _ (stop s s' _ o) (then _ _ (ticked_both s s' o a.time)))
 
-  pub unmatched_both : (s s' : Rows) → Over k z g s s' → (lists : List ℕ) → Q (arrival_of s lists a Nothing) (arrival_of s' lists a Nothing)
-  unmatched_both s s' o lists = arrival_by lists Nothing passes s s' o
+  pub unmatched_both : (s s' : Rows) → Over k z g s s' → (lists : List ℕ) → Q (arrival_of s lists a None) (arrival_of s' lists a None)
+  unmatched_both s s' o lists = arrival_by lists None passes s s' o
     where
-      passes : (t t' : Rows) → Over k z g t t' → Q (matched_of t lists a Nothing) (matched_of t' lists a Nothing)
+      passes : (t t' : Rows) → Over k z g t t' → Q (matched_of t lists a None) (matched_of t' lists a None)
       passes t t' p =
           subst (λ (v : Verdict). Q (told t (pass_of t a.priority a.drop_eligible false 0)) (told t' v)) (pass_both k z g t t' p a.priority a.drop_eligible false 0) (stop t t' _ p)
 
@@ -181,5 +180,5 @@ module _ (k : Asked) (z : Constants) (g : ℕ) (Q : Told → Told → Type 0) (s
       subst (λ (c : Counters). Q (sdu_filtered_of s lists a f row) (cond (eqb row.oversize_block 1 && c.oversize) (told (sdu_failed s' f c.oversize) (Dropped drop.OversizeBlocked)) (cond (not (eqb row.max_sdu 0) && ltb row.max_sdu a.msdu) (told (sdu_failed s' f (c.oversize || eqb row.oversize_block 1)) (Dropped drop.Oversize)) (gated_of (sdu_passed s' f) lists a f row))))
       (counters_both k z g s s' o f) (sdu_filtered_as s s' o lists f (counters s f))
 
-  pub arrival_both : (s s' : Rows) → Over k z g s s' → (lists : List ℕ) (f : ℕ) → Q (arrival_of s lists a (Hit f row)) (arrival_of s' lists a (Hit f row))
-  arrival_both s s' o lists f = arrival_by k z g Q stop a lists (Hit f row) (λ t t' p. sdu_filtered_both t t' p lists f) s s' o
+  pub arrival_both : (s s' : Rows) → Over k z g s s' → (lists : List ℕ) (f : ℕ) → Q (arrival_of s lists a (Some (f, row))) (arrival_of s' lists a (Some (f, row)))
+  arrival_both s s' o lists f = arrival_by k z g Q stop a lists (Some (f, row)) (λ t t' p. sdu_filtered_both t t' p lists f) s s' o

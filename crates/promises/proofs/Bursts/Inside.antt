@@ -1,5 +1,5 @@
 -- Step 5 on the two banks, for a frame whose filter names a scheduler of the group.
-use Rattle.std.specs.Prelude.{ℕ, ◌%◌, ◌+◌, ◌≤◌, ◌<◌, Bool, false, List, ◌≢◌, ◌≡◌, refl, leb}
+use Rattle.std.specs.Prelude.{ℕ, ◌%◌, ◌+◌, ◌≤◌, ◌<◌, Bool, false, List, ◌≢◌, ◌≡◌, refl, leb, Some}
 use Rattle.std.proofs.Math.Bool.{true}
 use Rattle.std.proofs.Common.{sym, ◌∙◌, arith, leb-true, leb-false}
 use Rattle.std.proofs.Math.Path.{ap, subst}
@@ -18,8 +18,7 @@ use Rattle.scheduler.proofs.Larger.{Ahead, larger_burst_step}
 use Rattle.record.specs.declared.ArrivalRecord.{ArrivalRecord}
 use Rattle.bank.specs.Meaning.{Rows, component, word, port_row, group_row, scheduler_row, row_of_scheduler_state, scheduler_in, scheduler, group, with_scheduler_state, with_group_last, groups_from, row_with, one_more}
 use Rattle.filter.specs.declared.Filter.{Filter}
-use Rattle.filter.specs.declared.Found.TheVariants.{At as Hit}
-use Rattle.verdict.specs.declared.Verdict.{Verdict}
+use Rattle.verdict.specs.Meaning.{Verdict}
 use Rattle.verdict.specs.Meaning.{Told}
 use Rattle.path.specs.Meaning.{class_in, pass_of, discard_counted, offered_of, scheduled_by, scheduled_of, arrival_of, charged_of}
 use Rattle.path.proofs.Cases.{scheduled_by_lem}
@@ -140,7 +139,7 @@ module _ (z : Constants) (g : ℕ) (a : ArrivalRecord) (row : Filter) (some : ro
 
 -- the whole path
 pub arrival_near : (z : Constants) (g : ℕ) (a : ArrivalRecord) (row : Filter) → row.scheduler ≢ 255 → z.names (scheduler_row row.scheduler) ≡ g → (s s' : Rows) → Over near z g s s' → (lists : List ℕ) (f : ℕ)
-    → Unless near z g (arrival_of s lists a (Hit f row)) (arrival_of s' lists a (Hit f row))
+    → Unless near z g (arrival_of s lists a (Some (f, row))) (arrival_of s' lists a (Some (f, row)))
 arrival_near z g a row some inside =
     arrival_both near z g (Unless near z g) (λ s s' v o _. record { verdicts = same refl; banks = o }) a row (λ s s' o priority mark. scheduled_near z g a row some inside s s' o priority mark)
 
@@ -211,5 +210,5 @@ module _ (z : Constants) (g : ℕ) (a : ArrivalRecord) (row : Filter) (some : ro
       r' : ℕ
       r' = scheduler_row row.scheduler
 
-  pub arrival_apart : (s s' : Rows) → Over apart z g s s' → (lists : List ℕ) (f : ℕ) → Over apart z g (arrival_of s lists a (Hit f row)).bank (arrival_of s' lists a (Hit f row)).bank
+  pub arrival_apart : (s s' : Rows) → Over apart z g s s' → (lists : List ℕ) (f : ℕ) → Over apart z g (arrival_of s lists a (Some (f, row))).bank (arrival_of s' lists a (Some (f, row))).bank
   arrival_apart = arrival_both apart z g (λ t t'. Over apart z g t.bank t'.bank) (λ s s' v o. o) a row scheduled_apart

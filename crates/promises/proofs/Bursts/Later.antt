@@ -1,5 +1,5 @@
 -- An arrival or a clear on two bridges, after the first took its start.
-use Rattle.std.specs.Prelude.{ℕ, true, List, ◌≡◌, refl}
+use Rattle.std.specs.Prelude.{ℕ, true, List, ◌≡◌, refl, None, Some}
 use Rattle.std.proofs.Common.{sym, ap, ◌∙◌, arith}
 use Rattle.std.proofs.Math.Path.{subst}
 use Rattle.std.proofs.Math.Decide.{ℕ_discrete}
@@ -8,11 +8,10 @@ use Rattle.record.specs.declared.ArrivalRecord.{ArrivalRecord}
 use Rattle.record.specs.declared.ClearRecord.{ClearRecord}
 use Rattle.bank.specs.Meaning.{Rows, scheduler_group}
 use Rattle.filter.specs.declared.Filter.{Filter}
-use Rattle.filter.specs.declared.Found.{Found}
-use Rattle.filter.specs.declared.Found.TheVariants.{Nothing, At}
+use Rattle.filter.specs.Meaning.{Found}
 use Rattle.filter.specs.Meaning.{row_of}
-use Rattle.verdict.specs.declared.Verdict.{Verdict}
-use Rattle.verdict.specs.declared.Verdict.TheVariants.{Refused, Taken, Passed, Dropped}
+use Rattle.verdict.specs.Meaning.{Verdict}
+use Rattle.verdict.specs.Meaning.{Refused, Taken, Passed, Dropped}
 use Rattle.verdict.specs.Meaning.{Told}
 use Rattle.path.specs.Meaning.{arrival_of}
 use Rattle.stage.specs.Meaning.{Bridge, Took, bridge, answered, bank_took, key_of, taken_of, started_of}
@@ -26,22 +25,22 @@ use Rattle.promises.proofs.Bursts.Clears.{clear_both}
 pub is_grouped : (g : ℕ) (b : Bridge) (a : ArrivalRecord) → Dec (Grouped g b a)
 is_grouped g b a = by_match (match_of b a) refl
   where
-    by_tests : (i : ℕ) (row : Filter) → match_of b a ≡ At i row → Dec (row.scheduler ≡ 255) → Dec (scheduler_group b.bank row.scheduler ≡ g) → Dec (Grouped g b a)
+    by_tests : (i : ℕ) (row : Filter) → match_of b a ≡ Some (i, row) → Dec (row.scheduler ≡ 255) → Dec (scheduler_group b.bank row.scheduler ≡ g) → Dec (Grouped g b a)
     by_tests i row e (yes p) d = no (λ h. h.scheduled (let same_row : h.row ≡ row = cc in ap (λ (f : Filter). f.scheduler) same_row ∙ p))
     by_tests i row e (no p) (no q) = no (λ h. q (let same_row : row ≡ h.row = cc in ap (λ (f : Filter). scheduler_group b.bank f.scheduler) same_row ∙ h.in_group))
     by_tests i row e (no p) (yes q) = yes (record { place = i; row = row; matched = e; scheduled = p; in_group = q })
 
     by_match : (f : Found) → match_of b a ≡ f → Dec (Grouped g b a)
-    by_match Nothing e = no (λ h. let z : ◌≡◌ {A = ℕ} 0 1 = cc in omega arith)
-    by_match (At i row) e = by_tests i row e (ℕ_discrete row.scheduler 255) (ℕ_discrete (scheduler_group b.bank row.scheduler) g)
+    by_match None e = no (λ h. let z : ◌≡◌ {A = ℕ} 0 1 = cc in omega arith)
+    by_match (Some (i, row)) e = by_tests i row e (ℕ_discrete row.scheduler 255) (ℕ_discrete (scheduler_group b.bank row.scheduler) g)
 
 module _ (k : Asked) (fair : Fair k) (g : ℕ) (b : Bridge) (s' : Rows) (o : Over k (constants_in b.bank) g b.bank s') (a : ArrivalRecord) where
   pub outside_alike : (Grouped g b a → ⊥) → Alike k (constants_in b.bank) g (arrival_of b.bank b.lists a (match_of b a)) (arrival_of s' b.lists a (match_of b a))
   outside_alike out = by_match (match_of b a) refl
     where
       by_match : (f : Found) → match_of b a ≡ f → Alike k (constants_in b.bank) g (arrival_of b.bank b.lists a f) (arrival_of s' b.lists a f)
-      by_match Nothing e = arrival_unmatched k (constants_in b.bank) g a b.bank s' o b.lists
-      by_match (At i row) e =
+      by_match None e = arrival_unmatched k (constants_in b.bank) g a b.bank s' o b.lists
+      by_match (Some (i, row)) e =
           arrival_outside k fair (constants_in b.bank) g a row (λ some in_group. out (record { place = i; row = row; matched = e; scheduled = some; in_group = in_group })) b.bank s' o b.lists i
 
 -- ---- answers

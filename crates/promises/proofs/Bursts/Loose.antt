@@ -6,7 +6,7 @@ use Rattle.record.specs.declared.Record.TheVariants as kind
 use Rattle.record.specs.declared.ArrivalRecord.{ArrivalRecord}
 use Rattle.record.specs.declared.ClearRecord.{ClearRecord}
 use Rattle.bank.specs.Meaning.{Rows, is_set}
-use Rattle.filter.specs.declared.Found.{Found}
+use Rattle.filter.specs.Meaning.{Found}
 use Rattle.filter.specs.Meaning.{row_of}
 use Rattle.path.specs.Meaning.{arrival_of}
 use Rattle.stage.specs.Meaning.{Bridge, Took, bridge, answered, bank_took, key_of, taken_of, started_of}

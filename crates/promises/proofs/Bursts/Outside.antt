@@ -1,5 +1,5 @@
 -- Step 5 on two banks that are equal outside a group, for a frame whose filter names no scheduler of that group: one verdict, and the banks stay so.
-use Rattle.std.specs.Prelude.{ℕ, ◌+◌, ◌%◌, ◌≤◌, ◌<◌, ◌^◌, false, List, ◌≢◌, ◌≡◌, refl}
+use Rattle.std.specs.Prelude.{ℕ, ◌+◌, ◌%◌, ◌≤◌, ◌<◌, ◌^◌, false, List, ◌≢◌, ◌≡◌, refl, None, Some}
 use Rattle.std.proofs.Math.Bool.{true}
 use Rattle.std.proofs.Common.{sym, ap, ◌∙◌, arith}
 use Rattle.std.proofs.Math.Decide.{ℕ_discrete}
@@ -13,8 +13,7 @@ use Rattle.scheduler.specs.Meaning.{scheduler_step_of}
 use Rattle.record.specs.declared.ArrivalRecord.{ArrivalRecord}
 use Rattle.bank.specs.Meaning.{Rows, word, port_row, group_row, scheduler_row, is_set, row_of_scheduler_state, scheduler_in, group_in, with_scheduler_state, with_group_last, ports_from, gates_from, groups_from, schedulers_from, row_with, one_more}
 use Rattle.filter.specs.declared.Filter.{Filter}
-use Rattle.filter.specs.declared.Found.TheVariants.{Nothing, At as Hit}
-use Rattle.verdict.specs.declared.Verdict.{Verdict}
+use Rattle.verdict.specs.Meaning.{Verdict}
 use Rattle.verdict.specs.Meaning.{Told, told}
 use Rattle.path.specs.Meaning.{discard_counted, offered_of, scheduled_by, scheduled_of, arrival_of, charged_of}
 use Rattle.path.proofs.Cases.{scheduled_none, scheduled_by_lem}
@@ -151,9 +150,9 @@ module _ (k : Asked) (fair : Fair k) (z : Constants) (g : ℕ) (a : ArrivalRecor
           (by_outcome k fair z g s s' o a i j refl (out n) priority mark (offered_of s a i j).scheduler (offered_of s a i j).outcome)
 
   -- the whole path
-  pub arrival_outside : (s s' : Rows) → Over k z g s s' → (lists : List ℕ) (f : ℕ) → Alike k z g (arrival_of s lists a (Hit f row)) (arrival_of s' lists a (Hit f row))
+  pub arrival_outside : (s s' : Rows) → Over k z g s s' → (lists : List ℕ) (f : ℕ) → Alike k z g (arrival_of s lists a (Some (f, row))) (arrival_of s' lists a (Some (f, row)))
   arrival_outside = arrival_both k z g (Alike k z g) (alike_stop k z g) a row scheduled_outside
 
 -- a frame of no filter
-pub arrival_unmatched : (k : Asked) (z : Constants) (g : ℕ) (a : ArrivalRecord) (s s' : Rows) → Over k z g s s' → (lists : List ℕ) → Alike k z g (arrival_of s lists a Nothing) (arrival_of s' lists a Nothing)
+pub arrival_unmatched : (k : Asked) (z : Constants) (g : ℕ) (a : ArrivalRecord) (s s' : Rows) → Over k z g s s' → (lists : List ℕ) → Alike k z g (arrival_of s lists a None) (arrival_of s' lists a None)
 arrival_unmatched k z g a = unmatched_both k z g (Alike k z g) (alike_stop k z g) a

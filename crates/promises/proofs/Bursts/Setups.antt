@@ -21,10 +21,10 @@ use Rattle.record.specs.declared.StartRecord.{StartRecord}
 use Rattle.record.specs.declared.Refusal.TheVariants.{SetUpAlready, NinthEntry, Missing, BurstTooSmall}
 use Rattle.bank.specs.Meaning.{Rows, with_row, word, is_set, component_row, port_row, gate_row, meter_row, meter_state_row, group_row, scheduler_row, row_of_port, row_of_gate, row_of_scheduler, component, entries, with_entries, group, scheduler_is_set, scheduler_group, groups_from, row_with, with_classes}
 use Rattle.bank.proofs.Rows.{row_same}
-use Rattle.verdict.specs.declared.Verdict.{Verdict}
-use Rattle.verdict.specs.declared.Verdict.TheVariants.{Refused, Taken}
+use Rattle.verdict.specs.Meaning.{Verdict}
+use Rattle.verdict.specs.Meaning.{Refused, Taken}
 use Rattle.verdict.specs.Meaning.{Told, told}
-use Rattle.filter.specs.declared.Found.{Found}
+use Rattle.filter.specs.Meaning.{Found}
 use Rattle.filter.specs.Meaning.{is_found}
 use Rattle.setup.specs.Meaning.{Listed, listed, refused_if, set_port_of, set_gate_of, add_entry_of, entry_kept, set_meter_of, set_group_of, fresh_scheduler_of, set_scheduler_of, stray_of, groupless_of, some_of, incomplete_of, start_of, entry_place}
 use Rattle.promises.proofs.Bursts.Pairs.{Constants, Pair, constants_in, put, outer_same, component_pair, near, Near, SchedulerNear, Outer}

@@ -12,7 +12,7 @@ use Rattle.record.specs.Meaning.{read_of}
 use Rattle.record.proofs.Laws.{read_late}
 use Rattle.record.proofs.Ranges.{read_ranges}
 use Rattle.bank.specs.Meaning.{group_row, scheduler_row, component_row, port_row, counters_row, gate_row, gate_state_row, meter_row, meter_state_row}
-use Rattle.verdict.specs.declared.Verdict.{Verdict}
+use Rattle.verdict.specs.Meaning.{Verdict}
 use Rattle.setup.specs.Meaning.{set_scheduler_of as setUpOf}
 use Rattle.stage.specs.Meaning.{Bridge, Took, answered, refused_of, taken_of, started_of, take_of}
 use Rattle.promises.specs.Bursts.Meaning.{NotLater, same, earlier, Eight, StartTogether, Spared, NoLater, SameOutside, SameBesides, Larger, Promise}

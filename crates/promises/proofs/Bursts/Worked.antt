@@ -7,8 +7,8 @@ use Rattle.scheduler.specs.Meaning.{scheduler_step_of, scheduler_in_range as sch
 use Rattle.record.specs.Meaning.{read_as, read_of, refusal_number_of}
 use Rattle.bank.specs.Meaning.{with_row}
 use Rattle.filter.specs.Meaning.{row_in_range as rowInRangeOf, is_filter_of, names_missing, exceeds_burst, counts_of, fits_of, row_answers, search_of}
-use Rattle.verdict.specs.declared.Verdict.{Verdict}
-use Rattle.verdict.specs.declared.Verdict.TheVariants.{Refused, Taken, Passed, Dropped}
+use Rattle.verdict.specs.Meaning.{Verdict}
+use Rattle.verdict.specs.Meaning.{Refused, Taken, Passed, Dropped}
 use Rattle.verdict.specs.Meaning.{drop_number_of}
 use Rattle.setup.specs.Meaning.{refused_if, set_gate_of, set_group_of, set_scheduler_of, some_of, start_of}
 use Rattle.path.specs.Meaning.{pass_of, sdu_passed, gate_passed, discard_counted, scheduled_by, scheduled_of, metered_of, gated_by, gated_of, sdu_filtered_of, arrival_of}

@@ -1,5 +1,5 @@
 -- One call and DiscardedFrames of one port: it moves by its own predicate, and no other way.
-use Rattle.std.specs.Prelude.{ℕ, ◌<◌, Bool, true, false, ◌&&◌, ◌||◌, ◌≡◌, eqb, ◌≢◌}
+use Rattle.std.specs.Prelude.{ℕ, ◌<◌, Bool, true, false, ◌&&◌, ◌||◌, ◌≡◌, eqb, ◌≢◌, Ok}
 use mathlib.Core.List.{List}
 use Rattle.std.proofs.Math.Path.{refl, ap}
 use Rattle.std.proofs.Common.{sym, ◌∙◌, arith, eq-eqb, ne_eqb}
@@ -9,18 +9,18 @@ use Rattle.record.specs.declared.Record.{Record}
 use Rattle.record.specs.declared.ArrivalRecord.{ArrivalRecord}
 use Rattle.record.specs.declared.Refusal.{Refusal}
 use Rattle.record.specs.declared.Refusal.TheVariants.{SetUpAlready, TimeGoesBack}
-use Rattle.record.specs.declared.Reading.{Reading}
+use Rattle.record.specs.Meaning.{Reading}
 use Rattle.bank.specs.Meaning.{Rows, word, component_row, port_row, group_row, scheduler_row, row_of_port, port, gate_state_row, meter_state_row, one_more, with_row, counters_row, counters, with_scheduler_state, with_group_last}
 use Rattle.bank.proofs.Rows.{row_same, row_other, row_kept}
 use Rattle.record.specs.declared.PortRecord.{PortRecord}
 use Rattle.record.proofs.Sorts.{Setup, Sort, setup, arrival, clear, sort_of, setup_arrival}
 use Rattle.record.proofs.Ranges.{read_ranges}
 use Rattle.filter.specs.declared.Filter.{Filter}
-use Rattle.filter.specs.declared.Found.{Found}
-use Rattle.filter.specs.declared.Asks.TheVariants.{Fits, Missing, ExceedsBurst}
+use Rattle.filter.specs.Meaning.{Found}
+use Rattle.filter.specs.Meaning.{Fits, Missing, ExceedsBurst}
 use Rattle.filter.specs.Meaning.{row_of}
-use Rattle.verdict.specs.declared.Verdict.{Verdict}
-use Rattle.verdict.specs.declared.Verdict.TheVariants.{Refused, Dropped, Passed}
+use Rattle.verdict.specs.Meaning.{Verdict}
+use Rattle.verdict.specs.Meaning.{Refused, Dropped, Passed}
 use Rattle.verdict.specs.Meaning.{Told, told}
 use Rattle.setup.specs.Meaning.{set_port_of, clear_of, with_largest}
 use Rattle.setup.proofs.Cases.{refused_by}
@@ -35,7 +35,6 @@ use Rattle.promises.specs.Counters.Meaning.{frame_in, drop_in, arrival_port, por
 use Rattle.promises.proofs.Counters.Tally.{counted}
 use Rattle.verdict.specs.declared.Drop.{Drop}
 use Rattle.record.specs.declared.Record.TheVariants as kind
-use Rattle.record.specs.declared.Reading.TheVariants as reading
 use Rattle.verdict.specs.declared.Drop.TheVariants as drop
 
 -- the word that counts them
@@ -164,7 +163,7 @@ refused_none : (m : Bool) (why : Refusal) → discarded_in m (Refused why) ≡ f
 refused_none m why = no_discard m (Refused why) refl
 
 module _ (b : Bridge) (c : Call) (p : ℕ) (small : p < port_count) where
-  record_discards : (r : Record) (used : ℕ) → reading_of b c ≡ reading.Taken r used → Sort r
+  record_discards : (r : Record) (used : ℕ) → reading_of b c ≡ Ok (r, used) → Sort r
       → discards (taken_of b c r used).after.bank p ≡ counted (discarded_in (eqb (arrival_port r) p) (taken_of b c r used).answer.verdict) (discards b.bank p)
   unfolding taken_of
   record_discards r used e (setup h) =

@@ -6,8 +6,8 @@ use Rattle.std.proofs.Common.{◌∙◌, arith}
 use Rattle.sizes.specs.Meaning.{filter_count, port_count}
 use Rattle.bank.specs.Meaning.{counters, port}
 use Rattle.verdict.specs.declared.Drop.TheVariants.{OversizeBlocked, Oversize, GateBlocked, GateClosed, GateOctets, Yellow, Red, Residence}
-use Rattle.verdict.specs.declared.Verdict.{Verdict}
-use Rattle.verdict.specs.declared.Verdict.TheVariants.{Refused, Taken, Passed, Dropped}
+use Rattle.verdict.specs.Meaning.{Verdict}
+use Rattle.verdict.specs.Meaning.{Refused, Taken, Passed, Dropped}
 use Rattle.stage.specs.Meaning.{Bridge, take_of}
 use Rattle.promises.specs.Meaning.{Call, Event, event_of, events_of, run_of, fresh}
 use Rattle.promises.specs.Counters.Meaning.{uses_of, matching_in, passing_sdu_in, not_passing_sdu_in, passing_in, not_passing_in, matching, passing_sdu, not_passing_sdu, passing, not_passing, red, discarded, one_if, count_of, wrap}

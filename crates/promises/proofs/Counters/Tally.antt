@@ -1,5 +1,5 @@
 -- One call and the counters of one filter: each moves by its own predicate, and no other way.
-use Rattle.std.specs.Prelude.{ℕ, ◌<◌, Bool, true, false, not, ◌||◌, List, ◌≢◌, ◌≡◌, eqb}
+use Rattle.std.specs.Prelude.{ℕ, ◌<◌, Bool, true, false, not, ◌||◌, List, ◌≢◌, ◌≡◌, eqb, None, Some}
 use Rattle.std.proofs.Math.Path.{refl, ap, subst}
 use Rattle.std.proofs.Common.{sym, ◌∙◌, arith, eq-eqb, ne_eqb}
 use Rattle.std.proofs.Math.Decide.{ℕ_discrete}
@@ -17,13 +17,12 @@ use Rattle.bank.specs.Meaning.{Rows, with_row, word, counters_row, gate_state_ro
 use Rattle.bank.proofs.Rows.{row_other, row_kept, row_same}
 use Rattle.bank.specs.declared.Counters.{Counters}
 use Rattle.filter.specs.declared.Filter.{Filter}
-use Rattle.filter.specs.declared.Found.{Found}
-use Rattle.filter.specs.declared.Found.TheVariants.{Nothing, At}
-use Rattle.filter.specs.declared.Asks.TheVariants.{Fits}
+use Rattle.filter.specs.Meaning.{Found}
+use Rattle.filter.specs.Meaning.{Fits}
 use Rattle.filter.specs.Meaning.{counts_of}
 use Rattle.filter.proofs.SearchLaws.{search_finds}
-use Rattle.verdict.specs.declared.Verdict.{Verdict}
-use Rattle.verdict.specs.declared.Verdict.TheVariants.{Refused, Taken, Passed, Dropped}
+use Rattle.verdict.specs.Meaning.{Verdict}
+use Rattle.verdict.specs.Meaning.{Refused, Taken, Passed, Dropped}
 use Rattle.verdict.specs.Meaning.{Told, told}
 use Rattle.setup.specs.Meaning.{clear_oversize_of, clear_invalid_receive_of, clear_octets_of, clear_red_of, clear_of}
 use Rattle.setup.proofs.Cases.{refused_by, clear_by_lem}
@@ -206,7 +205,7 @@ module _ (s : Rows) (lists : List ℕ) (a : ArrivalRecord) (g : ℕ) (small : g 
   matched_tally f row l (no n) =
       unmatched_tally _ _ _ _ (ne_eqb f g n) (ap counters_in (frame_keeps lists a f row _ (other_kept (s (counters_row g)) lists a f row g (omega (arith, n))) (ticked s a) ticked_kept))
 
-  arrived_tally : (found : Found) → ((f : ℕ) (row : Filter) → found ≡ At f row → f < filter_count) → Tallied (uses_of g found) (arrival_of s lists a found).verdict (counters s g) (counters (arrival_of s lists a found).bank g)
+  arrived_tally : (found : Found) → ((f : ℕ) (row : Filter) → found ≡ Some (f, row) → f < filter_count) → Tallied (uses_of g found) (arrival_of s lists a found).verdict (counters s g) (counters (arrival_of s lists a found).bank g)
   arrived_tally found low =
       arrived_along s lists a found (λ t. Tallied (uses_of g found) t.verdict (counters s g) (counters t.bank g))
       (record {
@@ -258,7 +257,7 @@ module _ (b : Bridge) (c : Call) (g : ℕ) (small : g < filter_count) where
   record_tally : (r : Record) (used : ℕ) → Sort r → Tallied (uses_of g (used_by b r)) (taken_of b c r used).answer.verdict (counters b.bank g) (counters (taken_of b c r used).after.bank g)
   unfolding taken_of
   record_tally r used (setup h) =
-      unmatched_tally _ (taken_of b c r used).answer.verdict _ _ (ap (uses_of g) (setup_arrival (λ a. first_row b Fits (key_of a)) Nothing r h))
+      unmatched_tally _ (taken_of b c r used).answer.verdict _ _ (ap (uses_of g) (setup_arrival (λ a. first_row b Fits (key_of a)) None r h))
       (counters_kept b.bank (taken_of b c r used).after.bank g (setup_row b c (counters_row g) (omega arith) (λ j. omega arith) (λ x. meter_other b.bank (counters_row g) x (omega arith) (omega arith)) r used h))
   record_tally r used (arrival a) =
       let found = first_row b Fits (key_of a) in

@@ -12,7 +12,7 @@ use Rattle.record.specs.declared.Refusal.TheVariants.{NotSetUp}
 use Rattle.record.proofs.Sorts.{Setup}
 use Rattle.bank.specs.Meaning.{Rows, word, is_set, row_of_gate_state, counters_row, gate_state_row, meter_state_row, gate, gate_is_set, meter_is_set, component_row, scheduler_row, group_row, port_row}
 use Rattle.filter.specs.declared.Filter.{Filter}
-use Rattle.filter.specs.declared.Found.{Found}
+use Rattle.filter.specs.Meaning.{Found}
 use Rattle.filter.specs.Meaning.{counts_of}
 use Rattle.verdict.specs.Meaning.{Told}
 use Rattle.setup.specs.Meaning.{with_flags, clear_oversize_of, clear_invalid_receive_of, clear_octets_of, clear_red_of, clear_of}

@@ -1,5 +1,5 @@
 -- The other half of the flags: a taken clear of a flag and id does put that flag down.
-use Rattle.std.specs.Prelude.{ℕ, Bool, true, ◌&&◌, ◌≡◌}
+use Rattle.std.specs.Prelude.{ℕ, Bool, true, ◌&&◌, ◌≡◌, Ok, Err}
 use Rattle.std.proofs.Math.Bool.{false}
 use Rattle.std.proofs.Math.Path.{refl, sym, ap}
 use Rattle.std.proofs.Common.{◌∙◌, arith}
@@ -12,13 +12,13 @@ use Rattle.record.specs.declared.Record.{Record}
 use Rattle.record.specs.declared.ClearRecord.{ClearRecord}
 use Rattle.record.specs.declared.Refusal.{Refusal}
 use Rattle.record.specs.declared.Refusal.TheVariants.{NotSetUp}
-use Rattle.record.specs.declared.Reading.{Reading}
+use Rattle.record.specs.Meaning.{Reading}
 use Rattle.record.proofs.Sorts.{Sort, setup, arrival, clear, sort_of, setup_clear}
 use Rattle.bank.specs.Meaning.{Rows, counters, gate, gate_is_set, meter, meter_is_set}
 use Rattle.filter.specs.declared.Filter.{Filter}
 use Rattle.filter.specs.Meaning.{row_of, counts_of}
-use Rattle.verdict.specs.declared.Verdict.{Verdict}
-use Rattle.verdict.specs.declared.Verdict.TheVariants.{Refused, Taken, Passed, Dropped}
+use Rattle.verdict.specs.Meaning.{Verdict}
+use Rattle.verdict.specs.Meaning.{Refused, Taken, Passed, Dropped}
 use Rattle.verdict.specs.Meaning.{Told}
 use Rattle.setup.specs.Meaning.{refused_if, clear_oversize_of, clear_invalid_receive_of, clear_octets_of, clear_red_of, clear_of}
 use Rattle.setup.proofs.Cases.{clear_oversize, clear_invalid_receive, clear_octets, clear_red}
@@ -29,7 +29,6 @@ use Rattle.promises.proofs.Ways.{Called, unread, read, called_way}
 use Rattle.promises.proofs.Refusals.Keeps.{answered_verdict}
 use Rattle.promises.specs.Flags.Meaning.{taken_in, clear_in, clear_by, clears}
 use Rattle.record.specs.declared.Record.TheVariants as kind
-use Rattle.record.specs.declared.Reading.TheVariants as reading
 
 taken : (v : Verdict) → taken_in v ≡ true → v ≡ Taken
 taken (Refused why) e = never e
@@ -38,8 +37,8 @@ taken (Passed p) e = never e
 taken (Dropped d) e = never e
 
 refused_clears_none : (flag i : ℕ) (rd : Reading) (why : Refusal) → clear_by flag i rd (Refused why) ≡ true → ⊥
-refused_clears_none flag i (reading.Refused w) why e = never e
-refused_clears_none flag i (reading.Taken r used) why e = never (both (clear_in flag i r) false e).1
+refused_clears_none flag i (Err w) why e = never e
+refused_clears_none flag i (Ok (r, used)) why e = never (both (clear_in flag i r) false e).1
 
 -- ---- a call that clears is a clear that is taken
 

@@ -9,7 +9,7 @@ use Rattle.record.specs.declared.ClearRecord.{ClearRecord}
 use Rattle.record.specs.declared.Refusal.TheVariants.{NotSetUp}
 use Rattle.bank.specs.Meaning.{Rows, counters_row, gate_state_row, meter_state_row, counters, bump, component_row, scheduler_row, group_row, port_row}
 use Rattle.filter.specs.declared.Filter.{Filter}
-use Rattle.filter.specs.declared.Found.{Found}
+use Rattle.filter.specs.Meaning.{Found}
 use Rattle.filter.specs.Meaning.{counts_of}
 use Rattle.verdict.specs.Meaning.{Told}
 use Rattle.setup.specs.Meaning.{clear_oversize_of, clear_invalid_receive_of, clear_octets_of, clear_red_of, clear_of}

@@ -1,5 +1,5 @@
 -- In every history from fresh, a red flag that stands is that of a meter that is set up.
-use Rattle.std.specs.Prelude.{ℕ, ◌≤◌, ◌<◌, true, false, not, List, [], ◌∷◌, ◌≢◌, ◌≡◌, refl, eqb}
+use Rattle.std.specs.Prelude.{ℕ, ◌≤◌, ◌<◌, true, false, not, List, [], ◌∷◌, ◌≢◌, ◌≡◌, refl, eqb, Some}
 use Rattle.std.proofs.Common.{sym, ap, ◌∙◌, arith}
 use Rattle.std.proofs.Math.Decide.{ℕ_discrete}
 use Rattle.std.proofs.lemmas.Bool.{eqb-false}
@@ -16,10 +16,9 @@ use Rattle.record.proofs.Sorts.{Setup, Sort, setup, arrival, clear, sort_of}
 use Rattle.bank.specs.Meaning.{Rows, with_row, word, is_set, counters_row, gate_state_row, meter_row, meter_state_row, row_of_meter, row_of_meter_state, gate_is_set, meter, meter_is_set, with_meter, with_meter_state, meters_from, groups_from, component_row, scheduler_row, group_row, port_row}
 use Rattle.bank.proofs.Rows.{row_same, row_other}
 use Rattle.filter.specs.declared.Filter.{Filter}
-use Rattle.filter.specs.declared.Found.{Found}
-use Rattle.filter.specs.declared.Found.TheVariants.{At}
-use Rattle.filter.specs.declared.Asks.TheVariants.{Fits, Missing, ExceedsBurst}
-use Rattle.filter.specs.declared.Question.{Question}
+use Rattle.filter.specs.Meaning.{Found}
+use Rattle.filter.specs.Meaning.{Fits, Missing, ExceedsBurst}
+use Rattle.filter.specs.Meaning.{Question}
 use Rattle.filter.specs.Meaning.{counts_of, fits_of, search_of}
 use Rattle.filter.proofs.Laws.{answers_asked, counts_meter}
 use Rattle.filter.proofs.SearchLaws.{search_finds}
@@ -73,7 +72,7 @@ module _ (a : ArrivalRecord) (f : ℕ) (row : Filter) where
     ports = λ s n. named_away s (port_row a.port) _ (λ i. omega arith) (λ i. omega arith);
   }
 
-arrived_kept : (a : ArrivalRecord) (found : Found) (s : Rows) (lists : List ℕ) → RedSetUp s → ((f : ℕ) (row : Filter) → found ≡ At f row → eqb row.meter 255 ≡ false → meter_is_set s row.meter ≡ true)
+arrived_kept : (a : ArrivalRecord) (found : Found) (s : Rows) (lists : List ℕ) → RedSetUp s → ((f : ℕ) (row : Filter) → found ≡ Some (f, row) → eqb row.meter 255 ≡ false → meter_is_set s row.meter ≡ true)
     → RedSetUp (arrival_of s lists a found).bank
 arrived_kept a found s lists k named =
     arrived_along s lists a found (λ t. RedSetUp t.bank)
@@ -84,7 +83,7 @@ arrived_kept a found s lists k named =
     })
 
 -- the row that a frame uses counts, so that its meter is set up
-named_is_set : (s : Rows) (table : List Filter) (q : Question) → q.asks ≡ Fits → (f : ℕ) (row : Filter) → search_of s q table ≡ At f row → eqb row.meter 255 ≡ false → meter_is_set s row.meter ≡ true
+named_is_set : (s : Rows) (table : List Filter) (q : Question) → q.asks ≡ Fits → (f : ℕ) (row : Filter) → search_of s q table ≡ Some (f, row) → eqb row.meter 255 ≡ false → meter_is_set s row.meter ≡ true
 named_is_set s table q asks f row e n =
     let counts : counts_of s row ≡ true = (both (fits_of q.key row) (counts_of s row) (sym (answers_asked s row q Fits asks) ∙ (search_finds s q table f row e).passes)).1 in
     counts_meter s row counts (eqb-false row.meter 255 n)

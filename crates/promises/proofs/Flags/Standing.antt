@@ -1,5 +1,5 @@
 -- What is to be shown of one call so that it lifts no flag: of a setup record, of an arrival and of a clear.
-use Rattle.std.specs.Prelude.{ℕ, ◌<◌, Bool, true, false, ◌&&◌, List, ◌≢◌, ◌≡◌, eqb}
+use Rattle.std.specs.Prelude.{ℕ, ◌<◌, Bool, true, false, ◌&&◌, List, ◌≢◌, ◌≡◌, eqb, Ok}
 use Rattle.std.proofs.Common.{sym, ap, ◌∙◌, arith, eq-eqb}
 use Rattle.std.proofs.Math.Decide.{ℕ_discrete}
 use mir.Val.{bool_byte}
@@ -7,17 +7,17 @@ use Rattle.sizes.specs.Meaning.{filter_count, gate_count}
 use Rattle.record.specs.declared.Record.{Record}
 use Rattle.record.specs.declared.ArrivalRecord.{ArrivalRecord}
 use Rattle.record.specs.declared.ClearRecord.{ClearRecord}
-use Rattle.record.specs.declared.Reading.{Reading}
+use Rattle.record.specs.Meaning.{Reading}
 use Rattle.record.proofs.Sorts.{Setup, Sort, setup, arrival, clear, sort_of}
 use Rattle.record.proofs.Ranges.{read_ranges}
 use Rattle.bank.specs.Meaning.{Rows, with_row, word, is_set}
 use Rattle.bank.proofs.Rows.{row_same, row_other}
 use Rattle.bank.proofs.Laws.{is_set_back}
 use Rattle.filter.specs.declared.Filter.{Filter}
-use Rattle.filter.specs.declared.Found.{Found}
+use Rattle.filter.specs.Meaning.{Found}
 use Rattle.filter.specs.Meaning.{row_of}
-use Rattle.verdict.specs.declared.Verdict.{Verdict}
-use Rattle.verdict.specs.declared.Verdict.TheVariants.{Taken}
+use Rattle.verdict.specs.Meaning.{Verdict}
+use Rattle.verdict.specs.Meaning.{Taken}
 use Rattle.setup.specs.Meaning.{clear_of}
 use Rattle.stage.specs.Meaning.{Bridge, Took, taken_of, started_of, take_of}
 use Rattle.promises.specs.Meaning.{Call, reading_of, event_of}
@@ -26,7 +26,6 @@ use Rattle.promises.proofs.Ways.{Called, unread, read, called_way}
 use Rattle.promises.specs.Flags.Meaning.{taken_in, clear_in, clear_by, clears}
 use Rattle.path.specs.Meaning.{arrival_of}
 use Rattle.record.specs.declared.Record.TheVariants as kind
-use Rattle.record.specs.declared.Reading.TheVariants as reading
 
 -- ---- a flag is a word of a row
 
@@ -71,7 +70,7 @@ module _ (b : Bridge) (c : Call) (S : Rows → Type 0) (flag i : ℕ) (now : S b
   module _ (setups : (r : Record) (used : ℕ) → Setup r → S (taken_of b c r used).after.bank)
       (arrivals : (a : ArrivalRecord) (found : Found) → S (arrival_of b.bank b.lists a found).bank)
       (cleared : (r : ClearRecord) (row : Filter) → r.id < filter_count → (r.flag ≢ 1 → r.id < gate_count) → Spares flag i r (clear_of b.bank r row).verdict → S (clear_of b.bank r row).bank) where
-    sorted : (r : Record) (used : ℕ) → reading_of b c ≡ reading.Taken r used → Sort r → clear_by flag i (reading.Taken r used) (taken_of b c r used).answer.verdict ≡ false → S (taken_of b c r used).after.bank
+    sorted : (r : Record) (used : ℕ) → reading_of b c ≡ Ok (r, used) → Sort r → clear_by flag i (Ok (r, used)) (taken_of b c r used).answer.verdict ≡ false → S (taken_of b c r used).after.bank
     unfolding taken_of
     sorted r used e (setup h) k = setups r used h
     sorted r used e (arrival a) k = arrivals a _

@@ -1,5 +1,5 @@
 -- A call keeps the agreement of the bridge with what is known: what it takes is noted, and a refusal adds nothing and changes nothing.
-use Rattle.std.specs.Prelude.{ℕ, suc, ◌*◌, ◌<◌, Bool, true, false, cond, List, [], ◌∷◌, ◌++◌, map, ◌≡◌, ltb, length, drop, set}
+use Rattle.std.specs.Prelude.{ℕ, suc, ◌*◌, ◌<◌, Bool, true, false, cond, List, [], ◌∷◌, ◌++◌, map, ◌≡◌, ltb, length, drop, set, Ok}
 use Rattle.std.proofs.Common.{append-nil, sym, ap, subst, ◌∙◌, arith, eq-eqb, ne_eqb, ltb-true, ltb-false, length-set, length-append, get_or-set_same, get_or-set_other}
 use Rattle.std.proofs.Math.Option.{Option}
 use Rattle.std.proofs.Math.Path.{refl}
@@ -27,8 +27,8 @@ use Rattle.record.proofs.Sorts.{Setup}
 use Rattle.record.proofs.Ranges.{read_ranges}
 use Rattle.bank.specs.Meaning.{Rows, component_row, gate_row, port, gate_is_set, entries, meter_is_set, group, scheduler_is_set}
 use Rattle.filter.specs.Meaning.{no_row, is_filter_of, row_of, is_found}
-use Rattle.verdict.specs.declared.Verdict.{Verdict}
-use Rattle.verdict.specs.declared.Verdict.TheVariants.{Refused, Taken, Passed, Dropped}
+use Rattle.verdict.specs.Meaning.{Verdict}
+use Rattle.verdict.specs.Meaning.{Refused, Taken, Passed, Dropped}
 use Rattle.verdict.specs.Meaning.{Told, told}
 use Rattle.setup.specs.Meaning.{Listed, refused_if, set_port_of, set_gate_of, add_entry_of, set_meter_of, set_group_of, set_scheduler_of, start_of, clear_of, incomplete_of}
 use Rattle.setup.proofs.Cases.{entry_taken, entry_ninth}
@@ -48,8 +48,7 @@ use Rattle.promises.proofs.Past.Frames.{arrived_said, cleared_said}
 use Rattle.promises.proofs.Past.Words.{entry_count_lem}
 use Rattle.promises.proofs.Past.Tests.{start_sound}
 use Rattle.record.specs.declared.Record.TheVariants as kind
-use Rattle.record.specs.declared.Reading.TheVariants as reading
-use Rattle.filter.specs.declared.Asks.TheVariants as asks
+use Rattle.filter.specs.Meaning as asks
 
 -- by whether the test of a refusal holds
 refusal_cases : (P : Told → Type 0) (t : Bool) (why : Refusal) (s : Rows) (x : Told) → P (told s (Refused why)) → (t ≡ false → P x) → P (refused_if t why s x)
@@ -151,7 +150,7 @@ module _ (k : Known) (b : Bridge) (a : Agrees k b) where
               (let h = a.filters i in record { is = get_or-set_other b.table x.id i (filter_of x) no_row n ∙ h.is; filters = h.filters })
 
       -- an entry goes behind those of its gate
-      module _ (c : Call) (x : GateEntryRecord) (said : read_of c (started_of s) ≡ reading.Taken (kind.GateEntry x) used) where
+      module _ (c : Call) (x : GateEntryRecord) (said : read_of c (started_of s) ≡ Ok (kind.GateEntry x, used)) where
         entry_ranged : InRange (kind.GateEntry x)
         entry_ranged = record { used = used; ranges = read_ranges c (started_of s) (kind.GateEntry x) used said }
 
@@ -219,7 +218,7 @@ module _ (k : Known) (b : Bridge) (a : Agrees k b) where
   -- ---- a record that is read, and a call
 
   module _ (c : Call) where
-    record_after : (r : Record) (used : ℕ) → (Setup r → started_in k ≡ false) → read_of c (started_of s) ≡ reading.Taken r used → InRange r → After r (taken_of b c r used)
+    record_after : (r : Record) (used : ℕ) → (Setup r → started_in k ≡ false) → read_of c (started_of s) ≡ Ok (r, used) → InRange r → After r (taken_of b c r used)
     unfolding taken_of
     record_after (kind.Port x) used early said ranged = port_after (early refl) used x ranged
     record_after (kind.Filter x) used early said ranged = filter_after (early refl) used x ranged

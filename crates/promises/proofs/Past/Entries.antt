@@ -1,7 +1,7 @@
 -- Kind 4: the entry that the gate decodes from the octets of a list is the record's state, IPV, interval and maximum; and a list that takes an entry more is
 -- the list before with that entry behind it.
 use Prim.Native.Nat.{ℕ, zero, suc, ◌+◌, ◌*◌, ◌≤◌, ◌<◌}
-use Rattle.std.specs.Prelude.{Bool, not, List, [], ◌∷◌, ◌++◌, map, ◌≡◌, eqb, length, get_or, take, drop}
+use Rattle.std.specs.Prelude.{Bool, not, List, [], ◌∷◌, ◌++◌, map, ◌≡◌, eqb, length, get_or, take, drop, Ok}
 use Rattle.std.proofs.Math.Path.{refl}
 use Rattle.std.proofs.Common.{ap, ◌∙◌, arith, length-take, length-drop, get_or-take}
 use Rattle.sizes.specs.Meaning.{gate_count, entry_count, entry_octets, list_octets, lists_octets}
@@ -14,7 +14,6 @@ use Rattle.record.proofs.BodyLaws.{body_octet, read_entry_body}
 use Rattle.setup.specs.Meaning.{entry_body_of}
 use Rattle.promises.specs.Past.Meaning.{entry_of}
 use Rattle.record.specs.declared.Record.TheVariants as kind
-use Rattle.record.specs.declared.Reading.TheVariants as reading
 
 -- ---- one entry
 
@@ -35,7 +34,7 @@ same_entry : (r r' : GateEntryRecord) → kind.GateEntry r ≡ kind.GateEntry r'
 same_entry r r' e = cc
 
 -- the octets that a taken entry stores are decoded to what its record says
-pub entry_kept : (c : List ℕ) (started : Bool) (r : GateEntryRecord) (used : ℕ) → read_of c started ≡ reading.Taken (kind.GateEntry r) used → entry_at (entry_body_of (body_in c used)) 0 ≡ entry_of r
+pub entry_kept : (c : List ℕ) (started : Bool) (r : GateEntryRecord) (used : ℕ) → read_of c started ≡ Ok (kind.GateEntry r, used) → entry_at (entry_body_of (body_in c used)) 0 ≡ entry_of r
 entry_kept c started r used e =
     let y = read_says c started (kind.GateEntry r) used e in
     let x : GateEntryRecord = record {

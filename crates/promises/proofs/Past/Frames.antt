@@ -14,9 +14,9 @@ use Rattle.bank.specs.Meaning.{Rows, component_row, port_row, group_row, schedul
 use Rattle.bank.proofs.Laws.{is_set_back}
 use Rattle.scheduler.specs.declared.Scheduler.{Scheduler}
 use Rattle.filter.specs.declared.Filter.{Filter}
-use Rattle.filter.specs.declared.Found.{Found}
+use Rattle.filter.specs.Meaning.{Found}
 use Rattle.filter.specs.Meaning.{counts_of}
-use Rattle.verdict.specs.declared.Verdict.{Verdict}
+use Rattle.verdict.specs.Meaning.{Verdict}
 use Rattle.verdict.specs.Meaning.{Told}
 use Rattle.setup.specs.Meaning.{clear_oversize_of, clear_invalid_receive_of, clear_octets_of, clear_red_of, clear_of, red_low}
 use Rattle.setup.proofs.Cases.{refused_by, clear_by_lem}

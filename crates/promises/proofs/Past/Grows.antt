@@ -1,14 +1,13 @@
 -- What is known of a past grows with each record that is taken: at the end of the past, one object at a time.
-use Rattle.std.specs.Prelude.{ℕ, Bool, true, false, cond, List, [], ◌∷◌, ◌++◌, ◌≡◌, refl, eqb}
+use Rattle.std.specs.Prelude.{ℕ, Bool, true, false, cond, List, [], ◌∷◌, ◌++◌, ◌≡◌, refl, eqb, Ok}
 use Rattle.std.proofs.Common.{append-nil, append_assoc, sym, ap, ◌∙◌}
 use Rattle.std.proofs.Math.Option.{Option, none, some}
 use Rattle.record.specs.declared.Record.{Record}
 use Rattle.record.specs.declared.GateEntryRecord.{GateEntryRecord}
 use Rattle.record.specs.Meaning.{Sought, another, an_entry, a_start, an_arrival, a_clear, sought_in, by_entry, of_entry}
-use Rattle.verdict.specs.declared.Verdict.{Verdict}
-use Rattle.verdict.specs.declared.Verdict.TheVariants.{Refused, Taken, Passed, Dropped}
+use Rattle.verdict.specs.Meaning.{Verdict}
+use Rattle.verdict.specs.Meaning.{Refused, Taken, Passed, Dropped}
 use Rattle.promises.specs.Past.Meaning.{Past, or_else, last_in, all_in, seek_port, seek_filter, seek_gate, seek_meter, seek_group, seek_scheduler, seek_entry, seek_start, seek_arrival, Known, known_of, record_added}
-use Rattle.record.specs.declared.Reading.TheVariants as reading
 
 -- what is known after one record more
 abbrev pub noted : Known → Record → Known
@@ -74,7 +73,7 @@ noted_by Taken k r = noted k r
 noted_by (Passed p) k r = noted k r
 noted_by (Dropped d) k r = noted k r
 
-pub known_added : (past : Past) (v : Verdict) (r : Record) (used : ℕ) → known_of (past ++ record_added v (reading.Taken r used)) ≡ noted_by v (known_of past) r
+pub known_added : (past : Past) (v : Verdict) (r : Record) (used : ℕ) → known_of (past ++ record_added v (Ok (r, used))) ≡ noted_by v (known_of past) r
 known_added past (Refused why) r used = ap known_of (append-nil past)
 known_added past Taken r used = known_grown past r
 known_added past (Passed p) r used = known_grown past r

@@ -1,5 +1,5 @@
 -- Kind 4: of the lists of all gates, what is the list of one before and after an entry that is taken.
-use Rattle.std.specs.Prelude.{ℕ, suc, ◌+◌, ◌*◌, ◌%◌, ◌≤◌, ◌<◌, Bool, List, [], ◌∷◌, ◌++◌, ◌≢◌, ◌≡◌, refl, length, get_or, drop}
+use Rattle.std.specs.Prelude.{ℕ, suc, ◌+◌, ◌*◌, ◌%◌, ◌≤◌, ◌<◌, Bool, List, [], ◌∷◌, ◌++◌, ◌≢◌, ◌≡◌, refl, length, get_or, drop, Ok}
 use Rattle.std.proofs.Common.{sym, ap, subst, ◌∙◌, arith, zero-add, get_or-drop}
 use Rattle.sizes.specs.Meaning.{gate_count, entry_count, entry_octets, list_octets, lists_octets}
 use Rattle.gate.specs.declared.Entry.{Entry}
@@ -15,7 +15,6 @@ use Rattle.promises.specs.Past.Meaning.{entry_of}
 use Rattle.promises.proofs.Past.Entries.{entry_kept, entry_agrees, entries_agree, entries_more}
 use Rattle.promises.proofs.Past.Agrees.{InRange}
 use Rattle.record.specs.declared.Record.TheVariants as kind
-use Rattle.record.specs.declared.Reading.TheVariants as reading
 
 -- octets that are loaded alike are alike
 loaded_alike : (ws ws' : List ℕ) (at n : ℕ) → load ws at 0 n ≡ load ws' at 0 n → (j : ℕ) → j < n → get_or ws (at + j) 0 ≡ get_or ws' (at + j) 0
@@ -41,7 +40,7 @@ module _ (s : Rows) (lists c : List ℕ) (x : GateEntryRecord) (whole : length l
       low i h = omega arith
 
   -- its own has the entry behind the others
-  pub own_list : (call : List ℕ) (started : Bool) (used : ℕ) → c ≡ body_in call used → read_of call started ≡ reading.Taken (kind.GateEntry x) used
+  pub own_list : (call : List ℕ) (started : Bool) (used : ℕ) → c ≡ body_in call used → read_of call started ≡ Ok (kind.GateEntry x, used)
       → entries_from (drop (x.gate * list_octets) lists') 0 (suc (entries s x.gate)) ≡ entries_from (drop (x.gate * list_octets) lists) 0 (entries s x.gate) ++ (entry_of x ∷ [])
   own_list call started used shown said =
       let n = entries s x.gate in

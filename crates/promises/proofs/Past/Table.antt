@@ -1,6 +1,6 @@
 -- Document 01's table of refusals in terms of the records taken: over every history from fresh, a call answers the number of the first row whose test on
 -- the past holds.
-use Rattle.std.specs.Prelude.{ℕ, ◌≤◌, Bool, true, false, not, List, [], ◌∷◌, ◌≢◌, ◌↔◌, ◌≡◌, refl, eqb, leb, ltb, length, get_or}
+use Rattle.std.specs.Prelude.{ℕ, ◌≤◌, Bool, true, false, not, List, [], ◌∷◌, ◌≢◌, ◌↔◌, ◌≡◌, refl, eqb, leb, ltb, length, get_or, Ok}
 use Rattle.std.proofs.Math.Option.{Option, none, some}
 use Rattle.std.proofs.Common.{sym, ap, ◌∙◌, arith, leb-true, le-leb, ltb-true, ltb-false, eq-eqb}
 use Rattle.std.proofs.lemmas.Bool.{lt-leb, eqb-false, not-false}
@@ -24,7 +24,6 @@ use Rattle.promises.proofs.Past.Words.{filter_set, port_set, gate_set, entry_cou
 use Rattle.promises.proofs.Past.Tests.{counts_said, incomplete_said, exceeds_found}
 use Rattle.promises.proofs.Past.Kept.{run_agrees_fresh}
 use Rattle.record.specs.declared.Record.TheVariants as kind
-use Rattle.record.specs.declared.Reading.TheVariants as reading
 
 -- ---- the tests of a record that is read
 
@@ -84,7 +83,7 @@ module _ (k : Known) (b : Bridge) (a : Agrees k b) (c : Call) where
           → first_holding (record_tries b (record_of j (values_at c 1 (fields_of j)))) ≡ first_holding (record_tries_in k (record_of j (values_at c 1 (fields_of j))))
       read_alike whole turn ranged =
           let r = record_of j (values_at c 1 (fields_of j)) in
-          let said : read_of c (started_in k) ≡ reading.Taken r (record_length j)
+          let said : read_of c (started_in k) ≡ Ok (r, (record_length j))
           = says_read c (started_in k) r (record_length j) (record { kind = j; said = e; whole = leb-true _ _ whole; in_turn = turn; in_range = ranged; is = refl; uses = refl }) in
           ap first_holding
           (same_tries k b a r (record { used = record_length j; ranges = read_ranges c (started_in k) r (record_length j) said }) (read_in_turn c (started_in k) r (record_length j) said))

@@ -1,5 +1,5 @@
 -- Each test on the bridge, where the bridge agrees with what is known of a past, is the test on what is known.
-use Rattle.std.specs.Prelude.{ℕ, zero, suc, ◌<◌, Bool, true, false, ◌&&◌, ◌||◌, List, ◌≢◌, ◌≡◌, refl, eqb}
+use Rattle.std.specs.Prelude.{ℕ, zero, suc, ◌<◌, Bool, true, false, ◌&&◌, ◌||◌, List, ◌≢◌, ◌≡◌, refl, eqb, None, Some}
 use Rattle.std.proofs.Math.Bool.{not}
 use Rattle.std.proofs.Math.Option.{Option, none, some}
 use Rattle.std.proofs.Common.{sym, ◌∙◌, arith}
@@ -12,11 +12,10 @@ use Rattle.record.specs.declared.FilterRecord.{FilterRecord}
 use Rattle.record.specs.declared.SchedulerRecord.{SchedulerRecord}
 use Rattle.bank.specs.Meaning.{Rows, component_row, meter_is_set, scheduler_is_set}
 use Rattle.filter.specs.declared.Filter.{Filter}
-use Rattle.filter.specs.declared.Asks.{Asks}
-use Rattle.filter.specs.declared.Asks.TheVariants.{Missing, ExceedsBurst}
-use Rattle.filter.specs.declared.Question.{Question}
-use Rattle.filter.specs.declared.Found.{Found}
-use Rattle.filter.specs.declared.Found.TheVariants.{Nothing, At}
+use Rattle.filter.specs.Meaning.{Asks}
+use Rattle.filter.specs.Meaning.{Missing, ExceedsBurst}
+use Rattle.filter.specs.Meaning.{Question}
+use Rattle.filter.specs.Meaning.{Found}
 use Rattle.filter.specs.Meaning.{is_filter_of, names_missing, exceeds_burst, counts_of, row_of, row_answers, search_of, is_found}
 use Rattle.filter.proofs.Laws.{filter_in_range, answers_asked}
 use Rattle.filter.proofs.SearchLaws.{search_finds, search_nothing}
@@ -59,8 +58,8 @@ found_some : (s : Rows) (q : Question) (rows : List Filter) → q.from ≡ 0 →
 found_some s q rows z = by_found (search_of s q rows) refl
   where
     by_found : (f : Found) → search_of s q rows ≡ f → is_found f ≡ some_of (λ i. row_answers s q (row_of rows i)) q.to
-    by_found Nothing e = sym (none_some _ q.to (λ i h. search_nothing s q rows e i (omega (arith, z)) h))
-    by_found (At i row) e =
+    by_found None e = sym (none_some _ q.to (λ i h. search_nothing s q rows e i (omega (arith, z)) h))
+    by_found (Some (i, row)) e =
         let f = search_finds s q rows i row e in
         sym (some_there _ q.to i f.high (ap (row_answers s q) (sym f.there) ∙ f.passes))
 

@@ -9,9 +9,9 @@ use Rattle.std.proofs.Common.{◌∙◌, arith, length-drop, length-append, drop
 use borrow.Author.Tests.{leb-true}
 use Rattle.record.specs.declared.Refusal.{Refusal}
 use Rattle.record.specs.Meaning.{refusal_number_of}
-use Rattle.verdict.specs.declared.Answer.{Answer}
-use Rattle.verdict.specs.declared.Verdict.{Verdict}
-use Rattle.verdict.specs.declared.Verdict.TheVariants.{Refused, Taken, Passed, Dropped}
+use Rattle.verdict.specs.Meaning.{Answer}
+use Rattle.verdict.specs.Meaning.{Verdict}
+use Rattle.verdict.specs.Meaning.{Refused, Taken, Passed, Dropped}
 use Rattle.stage.specs.Meaning.{Bridge, Took, take_of}
 use Rattle.text.specs.Meaning.{line_room, Page, page, written, pass_line_of, drop_line_of}
 use Rattle.text.proofs.Laws.{written_append, written_none}

@@ -1,6 +1,6 @@
 -- An input of many records may come in pieces, wherever they are cut. No octet past a record is looked at, so that only a record that is cut short
 -- has to wait, with its octets before those of the next piece: that is how `stream` hands the input of the programs on.
-use Rattle.std.specs.Prelude.{ℕ, zero, suc, ◌≤◌, Bool, cond, List, [], ◌∷◌, ◌++◌, ◌≢◌, ◌≡◌, eqb, length, drop}
+use Rattle.std.specs.Prelude.{ℕ, zero, suc, ◌≤◌, Bool, cond, List, [], ◌∷◌, ◌++◌, ◌≢◌, ◌≡◌, eqb, length, drop, Ok, Err}
 use Rattle.std.proofs.Math.Bool.{true, false}
 use Rattle.std.proofs.Math.Path.{refl, ap}
 use Rattle.std.proofs.Common.{sym, subst, ◌∙◌, arith, length-drop}
@@ -9,20 +9,19 @@ use Rattle.sizes.specs.Meaning.{filter_count}
 use Rattle.record.specs.declared.Record.{Record}
 use Rattle.record.specs.declared.Refusal.{Refusal}
 use Rattle.record.specs.declared.Refusal.TheVariants.{CutShort, TableLength}
-use Rattle.record.specs.declared.Reading.{Reading}
+use Rattle.record.specs.Meaning.{Reading}
 use Rattle.record.specs.Meaning.{read_of, record_length}
 use Rattle.record.proofs.Laws.{read_uses, read_extends}
 use Rattle.record.proofs.BodyLaws.{body_extends}
-use Rattle.verdict.specs.declared.Answer.{Answer}
-use Rattle.verdict.specs.declared.Verdict.{Verdict}
-use Rattle.verdict.specs.declared.Verdict.TheVariants.{Refused, Taken, Passed, Dropped}
+use Rattle.verdict.specs.Meaning.{Answer}
+use Rattle.verdict.specs.Meaning.{Verdict}
+use Rattle.verdict.specs.Meaning.{Refused, Taken, Passed, Dropped}
 use Rattle.setup.specs.Meaning.{add_entry_of}
 use Rattle.stage.specs.Meaning.{Bridge, Took, refused_of, lists_took, read_by, started_of, take_of}
 use Rattle.run.specs.Input.Meaning.{NoRefusal, Front, begins, takes, Input}
 use Rattle.promises.proofs.Refusals.Keeps.{Done, banks, lists, places, done_way, taken_uses_whole}
 use Rattle.promises.specs.Pieces.Meaning.{calls_of}
 use Rattle.promises.specs.Meaning.{Call, run_of, answers_of}
-use Rattle.record.specs.declared.Reading.TheVariants as reading
 
 -- ---- no octet past the record is looked at
 
@@ -34,8 +33,8 @@ module _ (b : Bridge) (s t : List ℕ) where
 
   reading_extends : (rd : Reading) → read_of s (started_of b.bank) ≡ rd → read_by b (s ++ t) rd ≡ read_by b s rd
   unfolding read_by
-  reading_extends (reading.Refused why) e = refl
-  reading_extends (reading.Taken r used) e = done_extends r used _ (done_way b r used) (read_uses s (started_of b.bank) r used e)
+  reading_extends (Err why) e = refl
+  reading_extends (Ok (r, used)) e = done_extends r used _ (done_way b r used) (read_uses s (started_of b.bank) r used e)
 
   table_extends : (full : Bool) → (cond full (read_by b s (read_of s (started_of b.bank))) (refused_of b TableLength)).answer.verdict ≢ Refused CutShort
       → cond full (read_by b (s ++ t) (read_of (s ++ t) (started_of b.bank))) (refused_of b TableLength) ≡ cond full (read_by b s (read_of s (started_of b.bank))) (refused_of b TableLength)

@@ -9,8 +9,8 @@ use Rattle.record.specs.declared.Record.{Record}
 use Rattle.record.specs.declared.Refusal.TheVariants.{CutShort, SetUpAlready, TableLength}
 use Rattle.record.specs.Meaning.{read_of}
 use Rattle.filter.specs.Meaning.{is_filter_of, row_of}
-use Rattle.verdict.specs.declared.Answer.{Answer}
-use Rattle.verdict.specs.declared.Verdict.TheVariants.{Refused, Taken}
+use Rattle.verdict.specs.Meaning.{Answer}
+use Rattle.verdict.specs.Meaning.{Refused, Taken}
 use Rattle.stage.specs.Meaning.{Bridge, Took, took, answered, refused_of, filter_of, read_by, taken_of, started_of, take_of}
 use Rattle.run.specs.Input.Meaning.{Front, begins, takes}
 use Rattle.promises.proofs.Ways.{Called, unread, read, called_way}

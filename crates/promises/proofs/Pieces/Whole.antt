@@ -1,6 +1,6 @@
 -- No octet of a line is ever left out: no frame that a bridge can be given has a longer line than the room that is kept for one, so that a run which
 -- begins with that room prints the lines of its answers whole.
-use Rattle.std.specs.Prelude.{ℕ, ◌+◌, ◌%◌, ◌^◌, ◌<◌, Bool, true, false, List, ◌≡◌, refl, eqb, ltb, length}
+use Rattle.std.specs.Prelude.{ℕ, ◌+◌, ◌%◌, ◌^◌, ◌<◌, Bool, true, false, List, ◌≡◌, refl, eqb, ltb, length, Ok}
 use Rattle.std.proofs.Common.{sym, ap, subst, ◌∙◌, arith}
 use Rattle.sizes.specs.Meaning.{filter_count, entry_count}
 use Rattle.logic.specs.Laws.{if_by}
@@ -11,10 +11,10 @@ use Rattle.record.specs.declared.Refusal.{Refusal}
 use Rattle.bank.specs.Meaning.{Rows, entries}
 use Rattle.filter.specs.declared.Filter.{Filter}
 use Rattle.filter.specs.Meaning.{is_filter_of, row_of}
-use Rattle.verdict.specs.declared.Answer.{Answer}
+use Rattle.verdict.specs.Meaning.{Answer}
 use Rattle.verdict.specs.declared.Pass.{Pass}
-use Rattle.verdict.specs.declared.Verdict.{Verdict}
-use Rattle.verdict.specs.declared.Verdict.TheVariants.{Refused, Taken, Passed, Dropped}
+use Rattle.verdict.specs.Meaning.{Verdict}
+use Rattle.verdict.specs.Meaning.{Refused, Taken, Passed, Dropped}
 use Rattle.verdict.specs.Meaning.{Told}
 use Rattle.setup.specs.Meaning.{Listed, refused_if, set_port_of, set_gate_of, add_entry_of, set_meter_of, set_group_of, set_scheduler_of, start_of, clear_oversize_of, clear_invalid_receive_of, clear_octets_of, clear_red_of, clear_of}
 use Rattle.stage.specs.Meaning.{Bridge, Took, answered, taken_of, take_of}
@@ -32,7 +32,6 @@ use Rattle.promises.specs.Pieces.Meaning.{Brief, EachBrief, Going}
 use Rattle.promises.proofs.Pieces.Runs.{run_is_front}
 use Rattle.promises.proofs.Pieces.UsedUp.{front_length}
 use Rattle.record.specs.declared.Record.TheVariants as kind
-use Rattle.record.specs.declared.Reading.TheVariants as reading
 
 -- ---- only an arrival passes: every other record is taken or refused
 
@@ -84,7 +83,7 @@ module _ (b : Bridge) (reached : Reached b) (full : length b.table ≡ filter_co
   pass_brief o (unread why) q p e n = absurd (let z : ◌≡◌ {A = ℕ} 0 1 = cc in omega arith)
   pass_brief o (read r used whole said) q p e n =
       let arrival = passed_arrival b c p r used e in
-      let h = pass_in_bounds b reached full c arrival.0 used (said ∙ ap (λ (x : Record). reading.Taken x used) arrival.1) p (ap (λ (x : Took). x.answer.verdict) q ∙ e) in
+      let h = pass_in_bounds b reached full c arrival.0 used (said ∙ ap (λ (x : Record). Ok (x, used)) arrival.1) p (ap (λ (x : Took). x.answer.verdict) q ∙ e) in
       pass_room ((n + 1) % 2 ^ 64) (omega arith) p (omega (arith, h.0)) (omega (arith, h.1)) (omega (arith, h.2)) (omega (arith, h.3))
 
   verdict_brief : (v : Verdict) → (take_of b c).answer.verdict ≡ v → Brief v

@@ -1,6 +1,6 @@
 -- Demand 1: each refusal number is given exactly when document 01's table says, in its order; a refusal uses nothing and changes nothing; a
 -- record that is taken uses its whole length.
-use Rattle.std.specs.Prelude.{ℕ, Bool, true, false, cond, List, ◌∷◌, ◌≡◌, refl, get_or}
+use Rattle.std.specs.Prelude.{ℕ, Bool, true, false, cond, List, ◌∷◌, ◌≡◌, refl, get_or, Ok}
 use Rattle.std.proofs.Math.Option.{some}
 use Rattle.std.proofs.Common.{sym, ap, ◌∙◌, arith}
 use Rattle.record.specs.declared.Record.{Record}
@@ -12,12 +12,12 @@ use Rattle.record.specs.Meaning.{body_in, Kind, kind_of, record_length}
 use Rattle.record.proofs.Laws.{read_says}
 use Rattle.bank.specs.Meaning.{Rows}
 use Rattle.filter.specs.declared.Filter.{Filter}
-use Rattle.filter.specs.declared.Found.{Found}
+use Rattle.filter.specs.Meaning.{Found}
 use Rattle.filter.specs.Meaning.{is_filter_of, row_of}
 use Rattle.verdict.specs.declared.Drop.{Drop}
 use Rattle.verdict.specs.declared.Pass.{Pass}
-use Rattle.verdict.specs.declared.Verdict.{Verdict}
-use Rattle.verdict.specs.declared.Verdict.TheVariants.{Refused, Taken, Passed, Dropped}
+use Rattle.verdict.specs.Meaning.{Verdict}
+use Rattle.verdict.specs.Meaning.{Refused, Taken, Passed, Dropped}
 use Rattle.verdict.specs.Meaning.{Told}
 use Rattle.setup.specs.Meaning.{Listed, add_entry_of, listed as listedTold}
 use Rattle.setup.proofs.Laws.{Keeps, port_keeps, gate_keeps, entry_keeps, meter_keeps, group_keeps, scheduler_keeps, start_keeps, clear_keeps}
@@ -28,7 +28,6 @@ use Rattle.promises.specs.Refusals.Meaning.{refusal_in}
 use Rattle.path.specs.Meaning.{sdu_filtered_of, arrival_of}
 use Rattle.run.specs.Input.Meaning.{NoRefusal}
 use Rattle.record.specs.declared.Record.TheVariants as kind
-use Rattle.record.specs.declared.Reading.TheVariants as reading
 
 -- ---- a frame that is taken passes or is dropped
 
@@ -161,7 +160,7 @@ module _ (b : Bridge) (c : Call) where
   pub record Uses (o : Took) : Type 0 where
     pub said : Record
     pub length_said : ℕ
-    pub reads : reading_of b c ≡ reading.Taken said length_said
+    pub reads : reading_of b c ≡ Ok (said, length_said)
     pub kind_said : Kind
     pub first : kind_of (get_or c 0 0) ≡ some kind_said
     pub whole_said : length_said ≡ record_length kind_said

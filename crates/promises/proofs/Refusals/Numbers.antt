@@ -1,5 +1,5 @@
 -- Demand 1: each refusal number is given exactly when document 01's table (`tries_of`) says, in its order.
-use Rattle.std.specs.Prelude.{ℕ, zero, suc, Bool, not, cond, ◌&&◌, List, [], ◌∷◌, ◌≢◌, ◌↔◌, ◌⊎◌, ◌≡◌, eqb, leb, ltb, length, get_or}
+use Rattle.std.specs.Prelude.{ℕ, zero, suc, Bool, not, cond, ◌&&◌, List, [], ◌∷◌, ◌≢◌, ◌↔◌, ◌⊎◌, ◌≡◌, eqb, leb, ltb, length, get_or, Ok, Err}
 use Rattle.std.proofs.Math.Bool.{true, false}
 use Rattle.std.proofs.Common.{inl, inr, ⊎_elim, sym, ◌∙◌, arith, eqb-true, eq-eqb, ne_eqb}
 use Rattle.std.proofs.Math.Option.{Option, none, some}
@@ -18,13 +18,13 @@ use Rattle.record.specs.declared.SchedulerRecord.{SchedulerRecord}
 use Rattle.record.specs.declared.StartRecord.{StartRecord}
 use Rattle.record.specs.declared.Refusal.{Refusal}
 use Rattle.record.specs.declared.Refusal.TheVariants.{CutShort, OutOfRange, OutOfTurn, SetUpAlready, NinthEntry, Missing, BurstTooSmall, NotSetUp, TableLength}
-use Rattle.record.specs.declared.Reading.{Reading}
+use Rattle.record.specs.Meaning.{Reading}
 use Rattle.record.specs.Meaning.{body_in, Kind, kind_of, fields_of, values_at, fields_in_range, refusal_number_of, record_length, length_in, in_turn_of, read_as, read_of}
 use Rattle.bank.specs.Meaning.{Rows, component, port, entries, gate_is_set, meter_is_set, group, scheduler_is_set}
-use Rattle.filter.specs.declared.Found.{Found}
+use Rattle.filter.specs.Meaning.{Found}
 use Rattle.filter.specs.Meaning.{is_filter_of, row_of, is_found, counts_of}
-use Rattle.verdict.specs.declared.Verdict.{Verdict}
-use Rattle.verdict.specs.declared.Verdict.TheVariants.{Refused, Taken}
+use Rattle.verdict.specs.Meaning.{Verdict}
+use Rattle.verdict.specs.Meaning.{Refused, Taken}
 use Rattle.verdict.specs.Meaning.{Told, told}
 use Rattle.setup.specs.Meaning.{Listed, refused_if, set_port_of, set_gate_of, add_entry_of, set_meter_of, set_group_of, set_scheduler_of, start_of, incomplete_of, clear_oversize_of, clear_invalid_receive_of, clear_octets_of, clear_red_of, clear_of}
 use Rattle.path.specs.Meaning.{arrival_of}
@@ -34,8 +34,7 @@ use Rattle.promises.proofs.Ways.{arrived_along}
 use Rattle.promises.proofs.Refusals.Keeps.{frame_framed, framed_number, answered_verdict}
 use Rattle.promises.specs.Refusals.Meaning.{refusal_in, refusal_of, Try, try, first_holding, StandsFirst, clearable_of, record_tries, empty_of, unknown_of, body_tries, kind_tries, octet_tries, tries_of}
 use Rattle.record.specs.declared.Record.TheVariants as kind
-use Rattle.record.specs.declared.Reading.TheVariants as reading
-use Rattle.filter.specs.declared.Asks.TheVariants as asks
+use Rattle.filter.specs.Meaning as asks
 
 -- ---- each record's own refusals
 
@@ -127,7 +126,7 @@ module _ (b : Bridge) (c : Call) where
   -- ---- then the octets
 
   abbrev readings : Bool → Bool → Bool → Record → ℕ → Reading
-  readings whole in_turn ranged r used = cond whole (cond in_turn (cond ranged (reading.Taken r used) (reading.Refused OutOfRange)) (reading.Refused OutOfTurn)) (reading.Refused CutShort)
+  readings whole in_turn ranged r used = cond whole (cond in_turn (cond ranged (Ok (r, used)) (Err OutOfRange)) (Err OutOfTurn)) (Err CutShort)
 
   reading_number : (whole in_turn ranged : Bool) (r : Record) (used : ℕ)
       → refusal_in (read_by b c (readings whole in_turn ranged r used)).answer.verdict ≡ first_holding (try 1 (not whole) ∷ try 4 (not in_turn) ∷ try 3 (not ranged) ∷ record_tries b r)

@@ -1,5 +1,5 @@
 -- Every call keeps the numbers of the bank sound, and so does a spoiled table: they are sound in every bridge that calls can reach.
-use Rattle.std.specs.Prelude.{ℕ, ◌≡◌}
+use Rattle.std.specs.Prelude.{ℕ, ◌≡◌, Ok}
 use Rattle.std.proofs.Common.{arith}
 use Rattle.logic.specs.Laws.{never}
 use Rattle.record.specs.declared.Record.{Record}
@@ -19,15 +19,14 @@ use Rattle.promises.proofs.Sound.Steps.{Ready}
 use Rattle.promises.proofs.Sound.Every.{some_given}
 use Rattle.promises.proofs.Sound.Frames.{told_given}
 use Rattle.record.specs.declared.Record.TheVariants as kind
-use Rattle.record.specs.declared.Reading.TheVariants as reading
 
 module _ (b : Bridge) (c : Call) (k : Sound b.bank) where
-  pub arrival_ready : (a : ArrivalRecord) (used : ℕ) → read_of c (started_of b.bank) ≡ reading.Taken (kind.Arrival a) used → Ready b a
+  pub arrival_ready : (a : ArrivalRecord) (used : ℕ) → read_of c (started_of b.bank) ≡ Ok (kind.Arrival a, used) → Ready b a
   arrival_ready a used e =
       let h = read_ranges c (started_of b.bank) (kind.Arrival a) used e in
       record { sound = k; begun = read_in_turn c (started_of b.bank) (kind.Arrival a) used e; time_high = h.2; priority_high = h.3; mark_high = h.4; msdu_high = h.5 }
 
-  record_sound : (r : Record) (used : ℕ) → read_of c (started_of b.bank) ≡ reading.Taken r used → Sort r → Sound (taken_of b c r used).after.bank
+  record_sound : (r : Record) (used : ℕ) → read_of c (started_of b.bank) ≡ Ok (r, used) → Sort r → Sound (taken_of b c r used).after.bank
   unfolding taken_of
   record_sound r used e (setup h) = setup_sound b c k (read_setup c (started_of b.bank) r used e h) r used h (read_ranges c (started_of b.bank) r used e)
   record_sound r used e (arrival a) = let some = some_given b a in (told_given b a (arrival_ready a used e) some.0 some.1).1

@@ -1,5 +1,5 @@
 -- Every frame is in one of document 01's cases.
-use Rattle.std.specs.Prelude.{ℕ, ◌≤◌, false, ◌≢◌, ◌≡◌, refl, leb, ltb, eqb}
+use Rattle.std.specs.Prelude.{ℕ, ◌≤◌, false, ◌≢◌, ◌≡◌, refl, leb, ltb, eqb, None, Some}
 use Rattle.std.proofs.Common.{leb-true, leb-false, ltb-true, ltb-false, eqb-true}
 use Rattle.std.proofs.lemmas.Bool.{eqb-false}
 use Rattle.logic.specs.Laws.{by_test}
@@ -10,10 +10,9 @@ use Rattle.meter.proofs.Laws.{Colour, green, yellow, yellow_dropped, red, painte
 use Rattle.record.specs.declared.ArrivalRecord.{ArrivalRecord}
 use Rattle.bank.specs.Meaning.{component, counters}
 use Rattle.filter.specs.declared.Filter.{Filter}
-use Rattle.filter.specs.declared.Found.{Found}
-use Rattle.filter.specs.declared.Found.TheVariants.{Nothing, At}
-use Rattle.filter.specs.declared.Asks.TheVariants.{Fits}
-use Rattle.verdict.specs.declared.Verdict.{Verdict}
+use Rattle.filter.specs.Meaning.{Found}
+use Rattle.filter.specs.Meaning.{Fits}
+use Rattle.verdict.specs.Meaning.{Verdict}
 use Rattle.path.specs.Meaning.{reached_of}
 use Rattle.stage.specs.Meaning.{Bridge, key_of, first_row}
 use Rattle.promises.specs.Sound.Meaning.{colour_at, eligible_at, latest_at, Matched, AtGate, AtMeter, unmetered, PastMeter, AtScheduler, Given, goes_back, unmatched, drop_1, drop_2, drop_3, drop_4, drop_5, drop_6, drop_7, unscheduled, scheduled, drop_8, green as marks-green, yellow as marks-yellow}
@@ -66,8 +65,8 @@ module _ (b : Bridge) (a : ArrivalRecord) where
         (λ flag. by_size m (λ _. flag))
 
   by_found : (component b.bank).clock ≤ a.time → (found : Found) → first_row b Fits (key_of a) ≡ found → Some
-  by_found timely Nothing e = (_, unmatched timely e)
-  by_found timely (At f row) e = by_block f row (record { timely = timely; first = e })
+  by_found timely None e = (_, unmatched timely e)
+  by_found timely (Some (f, row)) e = by_block f row (record { timely = timely; first = e })
 
   pub some_given : Some
   some_given = by_test (ltb a.time (component b.bank).clock) (λ e. (_, goes_back (ltb-true _ _ e))) (λ e. by_found (ltb-false _ _ e) _ refl)

@@ -30,9 +30,9 @@ use Rattle.bank.specs.Meaning.{Rows, with_row, component_row, port_row, counters
 use Rattle.bank.proofs.Rows.{row_other}
 use Rattle.bank.proofs.Laws.{clock_same, component_frame, counters_frame, meter_with}
 use Rattle.filter.specs.declared.Filter.{Filter}
-use Rattle.filter.specs.declared.Asks.TheVariants.{Fits}
-use Rattle.verdict.specs.declared.Verdict.{Verdict}
-use Rattle.verdict.specs.declared.Verdict.TheVariants.{Passed, Dropped}
+use Rattle.filter.specs.Meaning.{Fits}
+use Rattle.verdict.specs.Meaning.{Verdict}
+use Rattle.verdict.specs.Meaning.{Passed, Dropped}
 use Rattle.verdict.specs.Meaning.{Told}
 use Rattle.path.specs.Meaning.{internal_of, sdu_passed, sdu_failed, gate_passed, gate_failed, red_counted, discard_counted, charged_of, offered_of, scheduled_by, scheduled_of, coloured_of, metered_by, metered_of, reached_of, gated_by, gated_of, sdu_filtered_of, arrival_of}
 use Rattle.path.proofs.Cases.{scheduled_none, scheduled_by_lem, metered_none, metered_by_lem, gated_by_lem, sdu_blocked, sdu_oversize, sdu_passes, arrival_back, arrival_matched, arrival_unmatched}

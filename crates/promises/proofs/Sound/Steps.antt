@@ -12,11 +12,11 @@ use Rattle.scheduler.proofs.Range.{Ranged}
 use Rattle.record.specs.declared.ArrivalRecord.{ArrivalRecord}
 use Rattle.bank.specs.Meaning.{Rows, is_set, component, meter, scheduler, scheduler_group, group, burst}
 use Rattle.filter.specs.declared.Filter.{Filter}
-use Rattle.filter.specs.declared.Asks.TheVariants.{Fits}
+use Rattle.filter.specs.Meaning.{Fits}
 use Rattle.filter.specs.Meaning.{counts_of, fits_of}
 use Rattle.filter.proofs.Laws.{answers_asked, counts_scheduler, counts_max_sdu, counts_holds}
 use Rattle.filter.proofs.SearchLaws.{search_finds}
-use Rattle.verdict.specs.declared.Verdict.TheVariants.{Passed}
+use Rattle.verdict.specs.Meaning.{Passed}
 use Rattle.path.specs.Meaning.{internal_of, pass_of, charged_of, coloured_of}
 use Rattle.stage.specs.Meaning.{Bridge, key_of, started_of}
 use Rattle.promises.specs.Sound.Meaning.{Matched, AtScheduler, pass_at}

@@ -1,6 +1,6 @@
 -- Demand 2, one frame: whatever calls came before, and whatever was written into the lent table between them, the verdict of a frame is the one that document 01
 -- gives, and no other. A meter or a scheduler that a frame reaches never refuses it, and its class is always that of the table.
-use Rattle.std.specs.Prelude.{ℕ, ◌+◌, ◌^◌, ◌≤◌, ◌<◌, Bool, true, false, cond, List, [], ◌∷◌, ◌≢◌, ◌↔◌, ◌≡◌, refl, leb, length}
+use Rattle.std.specs.Prelude.{ℕ, ◌+◌, ◌^◌, ◌≤◌, ◌<◌, Bool, true, false, cond, List, [], ◌∷◌, ◌≢◌, ◌↔◌, ◌≡◌, refl, leb, length, Ok}
 use Rattle.std.proofs.Common.{sym, subst, ◌∙◌, arith, leb-true, leb-false, eq-eqb}
 use Rattle.std.proofs.Math.Path.{ap}
 use Rattle.sizes.specs.Meaning.{filter_count}
@@ -18,14 +18,14 @@ use Rattle.scheduler.proofs.Range.{test_of, ranged_back}
 use Rattle.scheduler.proofs.Cases.{step_dropped, step_admitted}
 use Rattle.record.specs.declared.ArrivalRecord.{ArrivalRecord}
 use Rattle.record.specs.declared.Refusal.TheVariants.{TableLength}
-use Rattle.record.specs.declared.Reading.{Reading}
+use Rattle.record.specs.Meaning.{Reading}
 use Rattle.record.specs.Meaning.{read_of}
 use Rattle.bank.specs.Meaning.{Rows, component, meter, scheduler, scheduler_group, group, burst}
 use Rattle.filter.specs.declared.Filter.{Filter}
-use Rattle.filter.specs.declared.Asks.TheVariants.{Fits}
+use Rattle.filter.specs.Meaning.{Fits}
 use Rattle.verdict.specs.declared.Pass.{Pass}
-use Rattle.verdict.specs.declared.Verdict.{Verdict}
-use Rattle.verdict.specs.declared.Verdict.TheVariants.{Passed, Dropped}
+use Rattle.verdict.specs.Meaning.{Verdict}
+use Rattle.verdict.specs.Meaning.{Passed, Dropped}
 use Rattle.verdict.specs.Meaning.{Told}
 use Rattle.path.specs.Meaning.{internal_of, charged_of, coloured_of, metered_by, offered_of, scheduled_by, arrival_of}
 use Rattle.stage.specs.Meaning.{Bridge, key_of, first_row, started_of, refused_of, taken_of, read_by, take_of}
@@ -37,7 +37,6 @@ use Rattle.promises.proofs.Sound.Every.{some_given}
 use Rattle.promises.proofs.Sound.Frames.{t₅, by_meter, step_5, by_offer, told_given}
 use Rattle.promises.proofs.Sound.Calls.{arrival_ready, reached_sound}
 use Rattle.record.specs.declared.Record.TheVariants as kind
-use Rattle.record.specs.declared.Reading.TheVariants as reading
 use Rattle.verdict.specs.declared.Drop.TheVariants as drop
 
 -- every history from fresh is among them
@@ -58,7 +57,7 @@ in_bounds reached =
 
 -- ---- one frame
 
-module _ (b : Bridge) (reached : Reached b) (whole : length b.table ≡ filter_count) (c : Call) (a : ArrivalRecord) (used : ℕ) (reads : read_of c (started_of b.bank) ≡ reading.Taken (kind.Arrival a) used) where
+module _ (b : Bridge) (reached : Reached b) (whole : length b.table ≡ filter_count) (c : Call) (a : ArrivalRecord) (used : ℕ) (reads : read_of c (started_of b.bank) ≡ Ok (kind.Arrival a, used)) where
   ready : Ready b a
   ready = arrival_ready b c (reached_sound reached) a used reads
 

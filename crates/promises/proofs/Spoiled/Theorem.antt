@@ -1,6 +1,6 @@
 -- A spoiled row is an empty row (01, the filter table's paragraph): the same call on the table with that place emptied answers the same, and
 -- leaves the same bank, the same lists and, at every other place, the same table.
-use Rattle.std.specs.Prelude.{ℕ, Bool, true, false, not, cond, List, ◌≡◌, ltb, length, set}
+use Rattle.std.specs.Prelude.{ℕ, Bool, true, false, not, cond, List, ◌≡◌, ltb, length, set, Ok, Err}
 use Rattle.std.proofs.Math.Path.{refl}
 use Rattle.std.proofs.Common.{sym, ap, ◌∙◌, arith, ltb-true, ltb-false, eqb-true, length-set, get_or-set_same, get_or-set_other, set-set}
 use Rattle.std.proofs.Math.Decide.{ℕ_discrete}
@@ -15,17 +15,17 @@ use Rattle.record.specs.declared.ArrivalRecord.{ArrivalRecord}
 use Rattle.record.specs.declared.ClearRecord.{ClearRecord}
 use Rattle.record.specs.declared.StartRecord.{StartRecord}
 use Rattle.record.specs.declared.Refusal.TheVariants.{TableLength, SetUpAlready}
-use Rattle.record.specs.declared.Reading.{Reading}
+use Rattle.record.specs.Meaning.{Reading}
 use Rattle.record.specs.Meaning.{read_of}
 use Rattle.record.proofs.Laws.{read_in_turn}
 use Rattle.bank.specs.Meaning.{Rows}
 use Rattle.filter.specs.declared.Filter.{Filter}
-use Rattle.filter.specs.declared.Asks.TheVariants.{Fits, Missing, ExceedsBurst}
-use Rattle.filter.specs.declared.Found.{Found}
+use Rattle.filter.specs.Meaning.{Fits, Missing, ExceedsBurst}
+use Rattle.filter.specs.Meaning.{Found}
 use Rattle.filter.specs.Meaning.{no_row, is_filter_of, counts_of, row_of}
 use Rattle.filter.proofs.SearchLaws.{search_spoiled, search_no_filter}
-use Rattle.verdict.specs.declared.Verdict.TheVariants.{Taken}
-use Rattle.verdict.specs.declared.Answer.{Answer}
+use Rattle.verdict.specs.Meaning.{Taken}
+use Rattle.verdict.specs.Meaning.{Answer}
 use Rattle.verdict.specs.Meaning.{Told}
 use Rattle.setup.specs.Meaning.{start_of, clear_oversize_of, clear_of}
 use Rattle.path.specs.Meaning.{arrival_of}
@@ -33,7 +33,6 @@ use Rattle.stage.specs.Meaning.{Bridge, took, answered, refused_of, bank_took, f
 use Rattle.promises.specs.Meaning.{Call}
 use Rattle.promises.specs.Spoiled.Meaning.{spoiled_at, emptied, but_for}
 use Rattle.record.specs.declared.Record.TheVariants as kind
-use Rattle.record.specs.declared.Reading.TheVariants as reading
 
 -- ---- rows of the emptied table
 
@@ -123,7 +122,7 @@ module _ (b : Bridge) (c : Call) (i : ℕ) (spoiled : spoiled_at b i ≡ true) w
   arrival_spoiled : (a : ArrivalRecord) → started ≡ true → arrival_of b.bank b.lists a (first_row b Fits (key_of a)) ≡ arrival_of b.bank b.lists a (first_row (emptied i b) Fits (key_of a))
   arrival_spoiled a e = ap (arrival_of b.bank b.lists a) (sym (search_spoiled b.bank _ b.table i refl (after_start e)))
 
-  record_spoiled : (r : Record) (used : ℕ) → length b.table ≡ filter_count → read_of c started ≡ reading.Taken r used → but_for i (taken_of b c r used) ≡ but_for i (taken_of (emptied i b) c r used)
+  record_spoiled : (r : Record) (used : ℕ) → length b.table ≡ filter_count → read_of c started ≡ Ok (r, used) → but_for i (taken_of b c r used) ≡ but_for i (taken_of (emptied i b) c r used)
   unfolding taken_of
   record_spoiled (kind.Port r) used full e = same_table b i _ _ _
   record_spoiled (kind.Filter r) used full e =
@@ -143,8 +142,8 @@ module _ (b : Bridge) (c : Call) (i : ℕ) (spoiled : spoiled_at b i ≡ true) w
 
   reading_spoiled : length b.table ≡ filter_count → (rd : Reading) → read_of c started ≡ rd → but_for i (read_by b c rd) ≡ but_for i (read_by (emptied i b) c rd)
   unfolding read_by
-  reading_spoiled full (reading.Refused why) e = same_table b i _ _ _
-  reading_spoiled full (reading.Taken r used) e = record_spoiled r used full e
+  reading_spoiled full (Err why) e = same_table b i _ _ _
+  reading_spoiled full (Ok (r, used)) e = record_spoiled r used full e
 
   table_spoiled : (t t' : Bool) → eqb (length b.table) filter_count ≡ t → t' ≡ t
       → but_for i (cond t (read_by b c (read_of c started)) (refused_of b TableLength)) ≡ but_for i (cond t' (read_by (emptied i b) c (read_of c started)) (refused_of (emptied i b) TableLength))

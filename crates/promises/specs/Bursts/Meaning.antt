@@ -1,22 +1,20 @@
 -- The promise on bursts: what it says of two histories from the fresh bridge that are equal but for one call, which sets up one scheduler with a larger burst in the second, and that take their start at the same call.
 -- As long as the first drops no frame of that scheduler's group with 8, the second drops none either, no frame is eligible later in it, and every other part of every answer, every counter and every flag is equal.
 -- And what is no frame of the group gets the very same answers, whatever happens inside it. That it holds is `larger_burst` in `Theorem.antt`.
-use Rattle.std.specs.Prelude.{ℕ, ◌≤◌, ◌<◌, false, List, [], ◌∷◌, ◌≢◌, ◌≡◌}
+use Rattle.std.specs.Prelude.{ℕ, ◌≤◌, ◌<◌, false, List, [], ◌∷◌, ◌≢◌, ◌≡◌, Ok, Some}
 use Rattle.record.specs.declared.ArrivalRecord.{ArrivalRecord}
 use Rattle.record.specs.declared.SchedulerRecord.{SchedulerRecord}
 use Rattle.record.specs.Meaning.{read_of}
 use Rattle.bank.specs.Meaning.{group_row, scheduler_row, scheduler_group, component_row, port_row, counters_row, gate_row, gate_state_row, meter_row, meter_state_row}
 use Rattle.filter.specs.declared.Filter.{Filter}
-use Rattle.filter.specs.declared.Found.{Found}
-use Rattle.filter.specs.declared.Found.TheVariants.{At}
-use Rattle.filter.specs.declared.Asks.TheVariants.{Fits}
+use Rattle.filter.specs.Meaning.{Found}
+use Rattle.filter.specs.Meaning.{Fits}
 use Rattle.verdict.specs.declared.Pass.{Pass}
-use Rattle.verdict.specs.declared.Verdict.{Verdict}
-use Rattle.verdict.specs.declared.Verdict.TheVariants.{Passed, Dropped}
+use Rattle.verdict.specs.Meaning.{Verdict}
+use Rattle.verdict.specs.Meaning.{Passed, Dropped}
 use Rattle.stage.specs.Meaning.{Bridge, Took, key_of, first_row, started_of, take_of}
 use Rattle.promises.specs.Meaning.{Call, run_of}
 use Rattle.record.specs.declared.Record.TheVariants as kind
-use Rattle.record.specs.declared.Reading.TheVariants as reading
 use Rattle.verdict.specs.declared.Drop.TheVariants as drop
 
 -- ---- frames of the group: their matched filter names a scheduler of it (whether or not they get that far)
@@ -27,7 +25,7 @@ match_of b a = first_row b Fits (key_of a)
 pub record Grouped (g : ℕ) (b : Bridge) (a : ArrivalRecord) : Type 0 where
   pub place : ℕ
   pub row : Filter
-  pub matched : match_of b a ≡ At place row
+  pub matched : match_of b a ≡ Some (place, row)
   pub scheduled : row.scheduler ≢ 255
   pub in_group : scheduler_group b.bank row.scheduler ≡ g
 
@@ -35,7 +33,7 @@ pub record Grouped (g : ℕ) (b : Bridge) (a : ArrivalRecord) : Type 0 where
 pub record Framed (g : ℕ) (b : Bridge) (c : Call) : Type 0 where
   pub frame : ArrivalRecord
   pub used : ℕ
-  pub reads : read_of c (started_of b.bank) ≡ reading.Taken (kind.Arrival frame) used
+  pub reads : read_of c (started_of b.bank) ≡ Ok (kind.Arrival frame, used)
   pub grouped : Grouped g b frame
 
 -- ---- verdicts that differ in nothing but an eligibility time, which is no later in the second
@@ -92,8 +90,8 @@ pub record Larger (c c' : Call) : Type 0 where
   pub second : SchedulerRecord
   pub used : ℕ
   pub used' : ℕ
-  pub says : read_of c false ≡ reading.Taken (kind.Scheduler first) used
-  pub says' : read_of c' false ≡ reading.Taken (kind.Scheduler second) used'
+  pub says : read_of c false ≡ Ok (kind.Scheduler first, used)
+  pub says' : read_of c' false ≡ Ok (kind.Scheduler second, used')
   pub ids : second.id ≡ first.id
   pub groups : second.group ≡ first.group
   pub rates : second.cir ≡ first.cir

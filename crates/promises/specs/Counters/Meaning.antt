@@ -1,16 +1,14 @@
 -- What each counter of document 01 counts: a plain predicate on what a call did, and the count over a history.
-use Rattle.std.specs.Prelude.{ℕ, ◌+◌, Bool, true, false, not, cond, ◌&&◌, ◌||◌, List, [], ◌∷◌, eqb}
+use Rattle.std.specs.Prelude.{ℕ, ◌+◌, Bool, true, false, not, cond, ◌&&◌, ◌||◌, List, [], ◌∷◌, eqb, Ok, Err, None, Some}
 use Rattle.record.specs.declared.Record.{Record}
-use Rattle.record.specs.declared.Reading.{Reading}
+use Rattle.record.specs.Meaning.{Reading}
 use Rattle.record.specs.Meaning.{of_arrival}
-use Rattle.filter.specs.declared.Found.{Found}
-use Rattle.filter.specs.declared.Found.TheVariants.{Nothing, At}
-use Rattle.verdict.specs.declared.Verdict.{Verdict}
-use Rattle.verdict.specs.declared.Verdict.TheVariants.{Refused, Taken, Passed, Dropped}
+use Rattle.filter.specs.Meaning.{Found}
+use Rattle.verdict.specs.Meaning.{Verdict}
+use Rattle.verdict.specs.Meaning.{Refused, Taken, Passed, Dropped}
 use Rattle.verdict.specs.Meaning.{drop_number_of}
 use Rattle.promises.specs.Meaning.{Event}
 use Rattle.sizes.specs.Meaning.{port_count}
-use Rattle.record.specs.declared.Reading.TheVariants as reading
 
 -- a frame that was taken: it passed or was dropped
 abbrev pub frame_in : Verdict → Bool
@@ -59,8 +57,8 @@ red_in m v = m && frame_in v && meter_drop (drop_in v)
 -- ---- the predicates on events: the counters of filter f, and of port p
 
 abbrev pub uses_of : ℕ → Found → Bool
-uses_of f Nothing = false
-uses_of f (At i row) = eqb i f
+uses_of f None = false
+uses_of f (Some (i, row)) = eqb i f
 
 abbrev pub matching : ℕ → Event → Bool
 matching f e = matching_in (uses_of f e.filter) e.verdict
@@ -85,8 +83,8 @@ abbrev pub arrival_port : Record → ℕ
 arrival_port = of_arrival (λ a. a.port) port_count
 
 abbrev pub port_by : Reading → ℕ
-port_by (reading.Refused why) = port_count
-port_by (reading.Taken r used) = arrival_port r
+port_by (Err why) = port_count
+port_by (Ok (r, used)) = arrival_port r
 
 abbrev pub discarded_in : Bool → Verdict → Bool
 discarded_in m v = m && frame_in v && eqb (drop_in v) 8

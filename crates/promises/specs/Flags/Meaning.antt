@@ -1,12 +1,11 @@
 -- What lifts a flag: a clear of that flag (by document 01's number) and id that is taken. And that no event of a history does.
-use Rattle.std.specs.Prelude.{ℕ, Bool, true, false, ◌&&◌, List, [], ◌∷◌, ◌≡◌, eqb}
+use Rattle.std.specs.Prelude.{ℕ, Bool, true, false, ◌&&◌, List, [], ◌∷◌, ◌≡◌, eqb, Ok, Err}
 use Rattle.record.specs.declared.Record.{Record}
-use Rattle.record.specs.declared.Reading.{Reading}
+use Rattle.record.specs.Meaning.{Reading}
 use Rattle.record.specs.Meaning.{of_clear}
-use Rattle.verdict.specs.declared.Verdict.{Verdict}
-use Rattle.verdict.specs.declared.Verdict.TheVariants.{Refused, Taken, Passed, Dropped}
+use Rattle.verdict.specs.Meaning.{Verdict}
+use Rattle.verdict.specs.Meaning.{Refused, Taken, Passed, Dropped}
 use Rattle.promises.specs.Meaning.{Event}
-use Rattle.record.specs.declared.Reading.TheVariants as reading
 
 abbrev pub taken_in : Verdict → Bool
 taken_in (Refused why) = false
@@ -18,8 +17,8 @@ abbrev pub clear_in : ℕ → ℕ → Record → Bool
 clear_in flag i = of_clear (λ r. eqb r.flag flag && eqb r.id i) false
 
 abbrev pub clear_by : ℕ → ℕ → Reading → Verdict → Bool
-clear_by flag i (reading.Refused why) v = false
-clear_by flag i (reading.Taken r used) v = clear_in flag i r && taken_in v
+clear_by flag i (Err why) v = false
+clear_by flag i (Ok (r, used)) v = clear_in flag i r && taken_in v
 
 abbrev pub clears : ℕ → ℕ → Event → Bool
 clears flag i e = clear_by flag i e.reading e.verdict

@@ -1,6 +1,6 @@
 -- The records that a history has taken, and document 01's table of refusals in their terms alone: which objects have a record, what that record says,
 -- and so when each number is given. No word of the bank, no row of the filter table and no octet of a gate list is looked at.
-use Rattle.std.specs.Prelude.{ℕ, zero, suc, max, Bool, true, false, not, cond, ◌&&◌, ◌||◌, List, [], ◌∷◌, ◌++◌, eqb, leb, ltb, length, get_or}
+use Rattle.std.specs.Prelude.{ℕ, zero, suc, max, Bool, true, false, not, cond, ◌&&◌, ◌||◌, List, [], ◌∷◌, ◌++◌, eqb, leb, ltb, length, get_or, Ok, Err}
 use Rattle.std.proofs.Math.Option.{Option, none, some}
 use Rattle.sizes.specs.Meaning.{filter_count, port_count, gate_count, entry_count, scheduler_count}
 use Rattle.frame.specs.Meaning.{length_of}
@@ -16,16 +16,15 @@ use Rattle.record.specs.declared.SchedulerRecord.{SchedulerRecord}
 use Rattle.record.specs.declared.StartRecord.{StartRecord}
 use Rattle.record.specs.declared.ArrivalRecord.{ArrivalRecord}
 use Rattle.record.specs.declared.ClearRecord.{ClearRecord}
-use Rattle.record.specs.declared.Reading.{Reading}
+use Rattle.record.specs.Meaning.{Reading}
 use Rattle.record.specs.Meaning.{Kind, kind_of, length_in, in_turn_in, of_entry, of_start, of_arrival, of_clear}
-use Rattle.verdict.specs.declared.Verdict.{Verdict}
-use Rattle.verdict.specs.declared.Verdict.TheVariants.{Refused, Taken, Passed, Dropped}
+use Rattle.verdict.specs.Meaning.{Verdict}
+use Rattle.verdict.specs.Meaning.{Refused, Taken, Passed, Dropped}
 use Rattle.setup.specs.Meaning.{some_of}
 use Rattle.stage.specs.Meaning.{Bridge, take_of}
 use Rattle.promises.specs.Meaning.{Call, Event, event_of}
 use Rattle.promises.specs.Refusals.Meaning.{Try, try, empty_of, unknown_of, out_of_range_of, of_record}
 use Rattle.record.specs.declared.Record.TheVariants as kind
-use Rattle.record.specs.declared.Reading.TheVariants as reading
 
 -- ---- the past of a history: the records that it has taken, the first first
 
@@ -33,8 +32,8 @@ abbrev pub Past : Type 0
 Past = List Record
 
 abbrev pub record_read : Reading → Past
-record_read (reading.Refused why) = []
-record_read (reading.Taken r used) = r ∷ []
+record_read (Err why) = []
+record_read (Ok (r, used)) = r ∷ []
 
 -- a call adds the record that it read where its verdict is no refusal, and nothing where it is one
 abbrev pub record_added : Verdict → Reading → Past

@@ -2,9 +2,9 @@
 use Rattle.std.specs.Prelude.{ℕ, ◌+◌, ◌%◌, ◌^◌, ◌<◌, ◌≤◌, true, false, List, [], ◌∷◌, ◌++◌, ◌≡◌, length, drop}
 use Rattle.record.specs.declared.Refusal.{Refusal}
 use Rattle.record.specs.Meaning.{refusal_number_of}
-use Rattle.verdict.specs.declared.Answer.{Answer}
-use Rattle.verdict.specs.declared.Verdict.{Verdict}
-use Rattle.verdict.specs.declared.Verdict.TheVariants.{Refused}
+use Rattle.verdict.specs.Meaning.{Answer}
+use Rattle.verdict.specs.Meaning.{Verdict}
+use Rattle.verdict.specs.Meaning.{Refused}
 use Rattle.stage.specs.Meaning.{Bridge, take_of}
 use Rattle.text.specs.Meaning.{line_room, page, written}
 use Rattle.run.specs.declared.Progress.{Progress}

@@ -1,7 +1,7 @@
 -- What document 01 says of a frame (01, A frame's path), in terms of the bridge as the frame finds it: how far it comes, and the verdict that it is given
 -- there. The answers that a meter, a scheduler and the table of classes keep for numbers that no record could have written are none of these cases.
 -- That the verdict is always one of them, and this one, is `Theorem.antt`.
-use Rattle.std.specs.Prelude.{ℕ, ◌+◌, ◌≤◌, ◌<◌, ◌^◌, Bool, true, false, List, ◌≢◌, ◌≡◌}
+use Rattle.std.specs.Prelude.{ℕ, ◌+◌, ◌≤◌, ◌<◌, ◌^◌, Bool, true, false, List, ◌≢◌, ◌≡◌, None, Some}
 use Rattle.bucket.specs.Meaning.{grains}
 use Rattle.class.specs.Meaning.{class_at}
 use Rattle.gate.specs.declared.Outcome.TheVariants.{Passed as Open, Blocked, Closed, TooManyOctets}
@@ -13,11 +13,10 @@ use Rattle.record.specs.declared.ArrivalRecord.{ArrivalRecord}
 use Rattle.record.specs.declared.Refusal.TheVariants.{TimeGoesBack}
 use Rattle.bank.specs.Meaning.{is_set, component, counters, meter, scheduler, scheduler_group, group}
 use Rattle.filter.specs.declared.Filter.{Filter}
-use Rattle.filter.specs.declared.Asks.TheVariants.{Fits}
-use Rattle.filter.specs.declared.Found.TheVariants.{Nothing, At}
+use Rattle.filter.specs.Meaning.{Fits}
 use Rattle.verdict.specs.declared.Pass.{Pass}
-use Rattle.verdict.specs.declared.Verdict.{Verdict}
-use Rattle.verdict.specs.declared.Verdict.TheVariants.{Refused, Passed, Dropped}
+use Rattle.verdict.specs.Meaning.{Verdict}
+use Rattle.verdict.specs.Meaning.{Refused, Passed, Dropped}
 use Rattle.path.specs.Meaning.{internal_of, charged_of, reached_of}
 use Rattle.stage.specs.Meaning.{Bridge, bridge, key_of, first_row, take_of}
 use Rattle.promises.specs.Meaning.{Call, fresh}
@@ -60,7 +59,7 @@ module _ (b : Bridge) (a : ArrivalRecord) where
   -- 1: its time does not go back, and filter `f` is the first that matches
   pub record Matched (f : ℕ) (row : Filter) : Type 0 where
     pub timely : (component b.bank).clock ≤ a.time
-    pub first : first_row b Fits (key_of a) ≡ At f row
+    pub first : first_row b Fits (key_of a) ≡ Some (f, row)
 
   -- 2: not oversize block and flag, nor MSDU greater than the max SDU
   pub record AtGate (f : ℕ) (row : Filter) : Type 0 where
@@ -124,7 +123,7 @@ module _ (b : Bridge) (a : ArrivalRecord) where
     -- refusal 9
     goes_back : a.time < (component b.bank).clock → Given (Refused TimeGoesBack)
     -- 1: "None: the frame passes, .. own priority, no eligibility time"
-    unmatched : (component b.bank).clock ≤ a.time → first_row b Fits (key_of a) ≡ Nothing → Given (Passed (pass_at b a.priority a.drop_eligible false 0))
+    unmatched : (component b.bank).clock ≤ a.time → first_row b Fits (key_of a) ≡ None → Given (Passed (pass_at b a.priority a.drop_eligible false 0))
     -- 2: "If oversize block is set and the oversize flag stands: drop 1. Else if a max SDU exists and MSDU is greater: drop 2"
     drop_1 : (f : ℕ) (row : Filter) → Matched f row → row.oversize_block ≡ 1 → (counters b.bank f).oversize ≡ true → Given (Dropped drop.OversizeBlocked)
     drop_2 : (f : ℕ) (row : Filter) → Matched f row → (row.oversize_block ≡ 1 → (counters b.bank f).oversize ≡ false) → row.max_sdu ≢ 0 → row.max_sdu < a.msdu → Given (Dropped drop.Oversize)
