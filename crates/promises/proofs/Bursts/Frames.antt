@@ -1,5 +1,6 @@
 -- Steps 1 to 4 of a frame's path on two banks that are equal outside a group: what holds of step 5 on both holds of the whole path on both.
 use Rattle.std.specs.Prelude.{ℕ, ◌%◌, ◌<◌, ◌^◌, Bool, true, false, not, ◌&&◌, ◌||◌, cond, List, ◌≡◌, refl, None, Some}
+use Rattle.core.specs.declared.option.Option.{Option}
 use Rattle.std.proofs.Math.Path.{ap, subst}
 use Rattle.std.proofs.Common.{◌∙◌, arith}
 use Rattle.std.proofs.Math.Dec.{ltb, eqb}
@@ -68,10 +69,10 @@ module _ (k : Asked) (z : Constants) (g : ℕ) (s s' : Rows) (o : Over k z g s s
   pub meter_both : (i : ℕ) → meter s i ≡ meter s' i
   meter_both i = ap (λ (u : List ℕ). meter_in u (s (meter_state_row i))) (meter_row_both i) ∙ ap (meter_in (s' (meter_row i))) (outer_both (meter_state_row i) (omega arith) (omega arith))
 
-  pub pass_both : (priority mark : ℕ) (timed : Bool) (at : ℕ) → pass_of s priority mark timed at ≡ pass_of s' priority mark timed at
+  pub pass_both : (priority mark : ℕ) (eligible : Option ℕ) → pass_of s priority mark eligible ≡ pass_of s' priority mark eligible
   unfolding pass_of
-  pass_both priority mark timed at =
-      ap (λ (x : Component). Passed (record { priority = priority; class = class_in (traffic_class_of priority (x.classes % 2 ^ 8)); drop_mark = mark; timed = timed; eligible = at })) component_both
+  pass_both priority mark eligible =
+      ap (λ (x : Component). Passed (record { priority = priority; class = class_in (traffic_class_of priority (x.classes % 2 ^ 8)); drop_mark = mark; eligible = eligible })) component_both
 
   -- ---- counters
 
@@ -126,7 +127,7 @@ module _ (k : Asked) (z : Constants) (g : ℕ) (Q : Told → Told → Type 0) (s
     where
       passes : (t t' : Rows) → Over k z g t t' → Q (matched_of t lists a None) (matched_of t' lists a None)
       passes t t' p =
-          subst (λ (v : Verdict). Q (told t (pass_of t a.priority a.drop_eligible false 0)) (told t' v)) (pass_both k z g t t' p a.priority a.drop_eligible false 0) (stop t t' _ p)
+          subst (λ (v : Verdict). Q (told t (pass_of t a.priority a.drop_eligible None)) (told t' v)) (pass_both k z g t t' p a.priority a.drop_eligible None) (stop t t' _ p)
 
 -- and of step 5
 module _ (k : Asked) (z : Constants) (g : ℕ) (Q : Told → Told → Type 0) (stop : (s s' : Rows) (v : Verdict) → Over k z g s s' → Q (told s v) (told s' v)) (a : ArrivalRecord) (row : Filter)

@@ -34,9 +34,9 @@ pub apart_fair : Fair apart
 apart_fair = record { overheads = λ u v e. e.overhead; discards = λ u v e. record { overhead = e.overhead } }
 
 -- one pass at two times
-sooner_pass : (s : Rows) (priority mark at at' : ℕ) → at' ≤ at → NotLater (pass_of s priority mark true at) (pass_of s priority mark true at')
+sooner_pass : (s : Rows) (priority mark at at' : ℕ) → at' ≤ at → NotLater (pass_of s priority mark (Some at)) (pass_of s priority mark (Some at'))
 unfolding pass_of
-sooner_pass s priority mark at at' h = earlier (record { priority = priority; class = class_in (traffic_class_of priority ((component s).classes % 256)); drop_mark = mark; timed = true; eligible = at }) at' (omega arith)
+sooner_pass s priority mark at at' h = earlier (record { priority = priority; class = class_in (traffic_class_of priority ((component s).classes % 256)); drop_mark = mark; eligible = Some at }) at at' refl (omega arith)
 
 -- unless the first drops the frame with 8
 pub record Leads (k : Asked) (z : Constants) (g : ℕ) (t t' : Told) : Type 0 where
@@ -86,8 +86,8 @@ module _ (z : Constants) (g : ℕ) (a : ArrivalRecord) (row : Filter) (some : ro
     admitted_told : (priority mark : ℕ) → Leads near z g (scheduled_by s a i g priority mark x (Admitted at)) (scheduled_by s' a i g priority mark x' (Admitted at'))
     unfolding scheduled_by pass_of
     admitted_told priority mark = record {
-      verdicts = subst (λ (v : Verdict). NotLater (pass_of (with_group_last (with_scheduler_state s i x) g at) priority mark true at) v)
-          (pass_both near z g _ _ admitted_near priority mark true at')
+      verdicts = subst (λ (v : Verdict). NotLater (pass_of (with_group_last (with_scheduler_state s i x) g at) priority mark (Some at)) v)
+          (pass_both near z g _ _ admitted_near priority mark (Some at'))
           (sooner_pass (with_group_last (with_scheduler_state s i x) g at) priority mark at at' no_later);
       banks = admitted_near;
     }

@@ -128,7 +128,7 @@ module _ (k : Asked) (fair : Fair k) (z : Constants) (g : ℕ) (s s' : Rows) (o 
 
     by_outcome : (priority mark : ℕ) (x : Scheduler) (d : SchedulerOutcome) → Alike k z g (scheduled_by s a i j priority mark x d) (scheduled_by s' a i j priority mark x d)
     unfolding scheduled_by
-    by_outcome priority mark x (Admitted at) = record { verdicts = pass_both k z g _ _ (admitted_both x at) priority mark true at; banks = admitted_both x at }
+    by_outcome priority mark x (Admitted at) = record { verdicts = pass_both k z g _ _ (admitted_both x at) priority mark (Some at); banks = admitted_both x at }
     by_outcome priority mark x Late = record { verdicts = refl; banks = discarded_both a.port }
     by_outcome priority mark x Unsound = record { verdicts = refl; banks = discarded_both a.port }
 
@@ -139,7 +139,7 @@ module _ (k : Asked) (fair : Fair k) (z : Constants) (g : ℕ) (a : ArrivalRecor
       by_name : Dec (row.scheduler ≡ 255) → Alike k z g (scheduled_of s a row priority mark) (scheduled_of s' a row priority mark)
       by_name (yes e) =
           rw (scheduled_none s a row priority mark e, scheduled_none s' a row priority mark e)
-          (record { verdicts = pass_both k z g s s' o priority mark false 0; banks = o })
+          (record { verdicts = pass_both k z g s s' o priority mark None; banks = o })
       by_name (no n) =
           let i = row.scheduler in
           let j = z.names (scheduler_row i) in

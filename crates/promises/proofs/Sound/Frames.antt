@@ -1,5 +1,5 @@
 -- A frame through the steps: in each of document 01's cases it is told that very verdict, and the numbers of the bank stay sound.
-use Rattle.std.specs.Prelude.{ℕ, ◌+◌, ◌%◌, ◌≤◌, ◌<◌, ◌^◌, Bool, not, ◌&&◌, List, ◌≢◌, ◌≡◌, refl, eqb, ltb}
+use Rattle.std.specs.Prelude.{ℕ, ◌+◌, ◌%◌, ◌≤◌, ◌<◌, ◌^◌, Bool, not, ◌&&◌, List, ◌≢◌, ◌≡◌, refl, eqb, ltb, Some, None}
 use Rattle.std.proofs.Math.Bool.{true, false}
 use Rattle.std.proofs.Common.{sym, subst, ◌∙◌, arith, eqb-true, ne_eqb, le-ltb, lt-ltb}
 use Rattle.std.proofs.Math.Path.{ap}
@@ -260,20 +260,20 @@ module _ (b : Bridge) (a : ArrivalRecord) (ready : Ready b a) where
     by_offer r e o e' = scheduled_by_lem t a row priority mark there.named j (ap (λ (u : List ℕ). word u 1 % group_count) (sym same_scheduler)) r (sym (same_offer ∙ e)) o e'
 
     -- the frame is eligible at `at`
-    admitted_answers : (x : Scheduler) (at : ℕ) → x.level ≤ grains (scheduler s i).burst.0 → x.last ≤ 2 ^ 62 + 1_000_000_000 → at ≤ 2 ^ 62 + 1_000_000_000 → Answers (Passed (pass_at b priority mark true at)) (scheduled_by t a i j priority mark x (Admitted at))
+    admitted_answers : (x : Scheduler) (at : ℕ) → x.level ≤ grains (scheduler s i).burst.0 → x.last ≤ 2 ^ 62 + 1_000_000_000 → at ≤ 2 ^ 62 + 1_000_000_000 → Answers (Passed (pass_at b priority mark (Some at))) (scheduled_by t a i j priority mark x (Admitted at))
     unfolding scheduled_by
     admitted_answers x at level last high =
         let t₆ : Rows = with_scheduler_state t i x in
         let t₇ : Rows = with_group_last t₆ j at in
         let level' : x.level ≤ grains (scheduler t i).burst.0 = rw same_scheduler level in
         let classes : (component t₇).classes ≡ (component s).classes = ap (λ x. x.classes) (component_frame t₆ (group_row j) _ (omega arith) ∙ component_frame t (scheduler_row i) _ (omega arith)) ∙ w.classes in
-        (pass_is b a ready t₇ classes priority mark true at (internal_high b a ready ipv), group_last_sound t₆ (scheduler_state_sound t w.sound i x level' last) j at high)
+        (pass_is b a ready t₇ classes priority mark (Some at) (internal_high b a ready ipv), group_last_sound t₆ (scheduler_state_sound t w.sound i x level' last) j at high)
 
     late_answers : (x : Scheduler) → Answers (Dropped drop.Residence) (scheduled_by t a i j priority mark x Late)
     unfolding scheduled_by discard_counted
     late_answers x = (refl, discarded_sound t w.sound a.port _)
 
-    pub scheduled_answers : eligible_at b a i ≤ latest_at b a i → Answers (Passed (pass_at b priority mark true (eligible_at b a i))) (scheduled_of t a row priority mark)
+    pub scheduled_answers : eligible_at b a i ≤ latest_at b a i → Answers (Passed (pass_at b priority mark (Some (eligible_at b a i)))) (scheduled_of t a row priority mark)
     scheduled_answers h =
         let k = scheduler_in_range_lem b a ready f row ipv mark there in
         let again = in_range_again (scheduler s i) (group s j).last (group s j).residence a.time (charged_of s a) k (eligible_at b a i) h in
@@ -292,7 +292,7 @@ module _ (b : Bridge) (a : ArrivalRecord) (ready : Ready b a) where
   told_given v (goes_back h) = rw (arrival_back s lists a _ h) (refl, ready.sound)
   told_given v (unmatched timely e) =
       let w = on_way timely in
-      rw (arrival_unmatched s lists a _ timely e) (pass_is b a ready t₁ w.classes a.priority a.drop_eligible false 0 ready.priority_high, w.sound)
+      rw (arrival_unmatched s lists a _ timely e) (pass_is b a ready t₁ w.classes a.priority a.drop_eligible None ready.priority_high, w.sound)
   told_given v (drop_1 f row m block flag) =
       rw (step_2 f row m, sdu_blocked t₁ lists a f row (blocked_test row.oversize_block (counters t₁ f).oversize block (same_flag f row ∙ flag))) (refl, failed_sound f row m.timely _)
   told_given v (drop_2 f row m free some larger) =
@@ -305,7 +305,7 @@ module _ (b : Bridge) (a : ArrivalRecord) (ready : Ready b a) where
   told_given v (unscheduled f row ipv mark m e) =
       let p = step_5 f row ipv mark m.at_meter m.marked in
       rw (p.goes, scheduled_none p.bank a row (internal_of ipv a.priority) mark e)
-      (pass_is b a ready p.bank p.on_its_way.classes (internal_of ipv a.priority) mark false 0 (internal_high b a ready ipv), p.on_its_way.sound)
+      (pass_is b a ready p.bank p.on_its_way.classes (internal_of ipv a.priority) mark None (internal_high b a ready ipv), p.on_its_way.sound)
   told_given v (scheduled f row ipv mark there h) =
       let p = step_5 f row ipv mark there.past_meter.at_meter there.past_meter.marked in
       rw p.goes (scheduled_answers f row ipv mark there p.bank p.on_its_way h)

@@ -1,5 +1,6 @@
 -- What the steps of a frame compute, where the bank is sound: the meter and the scheduler that a frame reaches never refuse it, and its class is that of the table.
 use Rattle.std.specs.Prelude.{ℕ, ◌%◌, ◌≤◌, ◌^◌, Bool, true, not, ◌≡◌, refl, leb, eqb}
+use Rattle.core.specs.declared.option.Option.{Option}
 use Rattle.std.proofs.Common.{sym, ap, ◌∙◌, arith, le-leb, leb-true}
 use Rattle.std.proofs.lemmas.Bool.{eqb-false}
 use Rattle.logic.specs.Laws.{both, if_by, by_test, contrary}
@@ -48,9 +49,9 @@ module _ (b : Bridge) (a : ArrivalRecord) (ready : Ready b a) where
   internal_high ipv = if_by (λ n. n ≤ 7) (leb ipv 7) _ _ (leb-true ipv 7) (λ e. ready.priority_high)
 
   -- in any bank that has the same number of classes
-  pub pass_is : (t : Rows) → (component t).classes ≡ (component s).classes → (priority mark : ℕ) (timed : Bool) (at : ℕ) → priority ≤ 7 → pass_of t priority mark timed at ≡ Passed (pass_at b priority mark timed at)
+  pub pass_is : (t : Rows) → (component t).classes ≡ (component s).classes → (priority mark : ℕ) (eligible : Option ℕ) → priority ≤ 7 → pass_of t priority mark eligible ≡ Passed (pass_at b priority mark eligible)
   unfolding pass_of traffic_class_of
-  pass_is t e priority mark timed at h =
+  pass_is t e priority mark eligible h =
       let few : (component s).classes % 2 ^ 8 ≡ (component s).classes = omega (arith, ready.sound.classes) in
       rw (e, few, in_table_lem priority h)
 

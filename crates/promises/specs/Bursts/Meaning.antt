@@ -40,7 +40,7 @@ pub record Framed (g : ℕ) (b : Bridge) (c : Call) : Type 0 where
 
 pub data NotLater : Verdict → Verdict → Type 0 where
   same : {v v' : Verdict} → v ≡ v' → NotLater v v'
-  earlier : (p : Pass) (at : ℕ) → at ≤ p.eligible → NotLater (Passed p) (Passed (record { priority = p.priority; class = p.class; drop_mark = p.drop_mark; timed = p.timed; eligible = at }))
+  earlier : (p : Pass) (at at' : ℕ) → p.eligible ≡ Some at → at' ≤ at → NotLater (Passed p) (Passed (record { priority = p.priority; class = p.class; drop_mark = p.drop_mark; eligible = Some at' }))
 
 -- drop 8
 abbrev pub Eight : Verdict → Type 0

@@ -2,6 +2,7 @@
 -- there. The answers that a meter, a scheduler and the table of classes keep for numbers that no record could have written are none of these cases.
 -- That the verdict is always one of them, and this one, is `Theorem.antt`.
 use Rattle.std.specs.Prelude.{ℕ, ◌+◌, ◌≤◌, ◌<◌, ◌^◌, Bool, true, false, List, ◌≢◌, ◌≡◌, None, Some}
+use Rattle.core.specs.declared.option.Option.{Option}
 use Rattle.bucket.specs.Meaning.{grains}
 use Rattle.class.specs.Meaning.{class_at}
 use Rattle.gate.specs.declared.Outcome.TheVariants.{Passed as Open, Blocked, Closed, TooManyOctets}
@@ -50,8 +51,8 @@ abbrev pub latest_at : Bridge → ArrivalRecord → ℕ → ℕ
 latest_at b a i = a.time + (group b.bank (scheduler_group b.bank i)).residence
 
 -- "A pass carries the internal priority .., its traffic class, drop mark, and eligibility time or none": the class is that of the table
-abbrev pub pass_at : Bridge → ℕ → ℕ → Bool → ℕ → Pass
-pass_at b priority mark timed at = record { priority = priority; class = class_at priority (component b.bank).classes; drop_mark = mark; timed = timed; eligible = at }
+abbrev pub pass_at : Bridge → ℕ → ℕ → Option ℕ → Pass
+pass_at b priority mark eligible = record { priority = priority; class = class_at priority (component b.bank).classes; drop_mark = mark; eligible = eligible }
 
 -- ---- how far the frame comes
 
@@ -123,7 +124,7 @@ module _ (b : Bridge) (a : ArrivalRecord) where
     -- refusal 9
     goes_back : a.time < (component b.bank).clock → Given (Refused TimeGoesBack)
     -- 1: "None: the frame passes, .. own priority, no eligibility time"
-    unmatched : (component b.bank).clock ≤ a.time → first_row b Fits (key_of a) ≡ None → Given (Passed (pass_at b a.priority a.drop_eligible false 0))
+    unmatched : (component b.bank).clock ≤ a.time → first_row b Fits (key_of a) ≡ None → Given (Passed (pass_at b a.priority a.drop_eligible None))
     -- 2: "If oversize block is set and the oversize flag stands: drop 1. Else if a max SDU exists and MSDU is greater: drop 2"
     drop_1 : (f : ℕ) (row : Filter) → Matched f row → row.oversize_block ≡ 1 → (counters b.bank f).oversize ≡ true → Given (Dropped drop.OversizeBlocked)
     drop_2 : (f : ℕ) (row : Filter) → Matched f row → (row.oversize_block ≡ 1 → (counters b.bank f).oversize ≡ false) → row.max_sdu ≢ 0 → row.max_sdu < a.msdu → Given (Dropped drop.Oversize)
@@ -135,8 +136,8 @@ module _ (b : Bridge) (a : ArrivalRecord) where
     drop_6 : ColouredAs YellowDropped → Given (Dropped drop.Yellow)
     drop_7 : ColouredAs Red → Given (Dropped drop.Red)
     -- no scheduler is named
-    unscheduled : (f : ℕ) (row : Filter) (ipv mark : ℕ) → PastMeter f row ipv mark → row.scheduler ≡ 255 → Given (Passed (pass_at b (internal_of ipv a.priority) mark false 0))
+    unscheduled : (f : ℕ) (row : Filter) (ipv mark : ℕ) → PastMeter f row ipv mark → row.scheduler ≡ 255 → Given (Passed (pass_at b (internal_of ipv a.priority) mark None))
     -- 5: "If it is at most arrival + residence", it is eligible then; "Residence exceeded: drop 8"
     scheduled : (f : ℕ) (row : Filter) (ipv mark : ℕ) → AtScheduler f row ipv mark → eligible_at b a row.scheduler ≤ latest_at b a row.scheduler
-        → Given (Passed (pass_at b (internal_of ipv a.priority) mark true (eligible_at b a row.scheduler)))
+        → Given (Passed (pass_at b (internal_of ipv a.priority) mark (Some (eligible_at b a row.scheduler))))
     drop_8 : ResidenceExceeded → Given (Dropped drop.Residence)
