@@ -4,7 +4,7 @@ use Rattle.std.proofs.Common.{ap, sym, ◌∙◌, arith, eq-eqb, ne_eqb, ext_get
 use Rattle.std.proofs.Math.Path.{fun_ext}
 use Rattle.std.proofs.Math.Decide.{ℕ_discrete}
 use Rattle.sizes.specs.Meaning.{row_words}
-use Rattle.bank.specs.Meaning.{store, Rows, rows_of, with_row}
+use Rattle.bank.specs.Meaning.{store, Rows, rows_in, with_row}
 use Rattle.bank.proofs.Store.{load_same, load_apart, get_d_load, load_set, load_untouched}
 
 pub row_same : (s : Rows) (r : ℕ) (vs : List ℕ) → with_row s r vs r ≡ vs
@@ -51,33 +51,33 @@ abbrev pub put_row : List ℕ → ℕ → List ℕ → List ℕ
 put_row ws r vs = store ws (r * row_words) 0 vs
 
 module _ (ws : List ℕ) (r : ℕ) (vs : List ℕ) (whole : length vs ≡ row_words) (fits : r * row_words + row_words ≤ length ws) where
-  at_row : (q : ℕ) → Dec (q ≡ r) → rows_of (put_row ws r vs) q ≡ with_row (rows_of ws) r vs q
+  at_row : (q : ℕ) → Dec (q ≡ r) → rows_in (put_row ws r vs) q ≡ with_row (rows_in ws) r vs q
   at_row q (yes e) =
-      rw e ((rw whole at (load_same ws (r * row_words) 0 vs (omega arith))) ∙ sym (row_same (rows_of ws) r vs))
-  at_row q (no h) = load_apart ws (r * row_words) vs (q * row_words) row_words (omega arith) ∙ sym (row_other (rows_of ws) r vs q h)
+      rw e ((rw whole at (load_same ws (r * row_words) 0 vs (omega arith))) ∙ sym (row_same (rows_in ws) r vs))
+  at_row q (no h) = load_apart ws (r * row_words) vs (q * row_words) row_words (omega arith) ∙ sym (row_other (rows_in ws) r vs q h)
 
-  pub rows_put : rows_of (put_row ws r vs) ≡ with_row (rows_of ws) r vs
+  pub rows_put : rows_in (put_row ws r vs) ≡ with_row (rows_in ws) r vs
   rows_put = fun_ext (λ q. at_row q (ℕ_discrete q r))
 
 -- a store of one word, the k-th of row r
 module _ (ws : List ℕ) (r k v : ℕ) (in_row : k < row_words) (fits : r * row_words + row_words ≤ length ws) where
-  at_cell : (q : ℕ) → Dec (q ≡ r) → rows_of (slice_set ws (r * row_words + k) v) q ≡ with_row (rows_of ws) r (slice_set (rows_of ws r) k v) q
+  at_cell : (q : ℕ) → Dec (q ≡ r) → rows_in (slice_set ws (r * row_words + k) v) q ≡ with_row (rows_in ws) r (slice_set (rows_in ws r) k v) q
   at_cell q (yes e) =
-      rw e (load_set ws (r * row_words + k) v (r * row_words) 0 row_words k (omega arith) in_row (omega arith) ∙ sym (row_same (rows_of ws) r (slice_set (rows_of ws r) k v)))
+      rw e (load_set ws (r * row_words + k) v (r * row_words) 0 row_words k (omega arith) in_row (omega arith) ∙ sym (row_same (rows_in ws) r (slice_set (rows_in ws r) k v)))
   at_cell q (no h) =
-      load_untouched ws (r * row_words + k) v (q * row_words) 0 row_words (omega arith) ∙ sym (row_other (rows_of ws) r (slice_set (rows_of ws r) k v) q h)
+      load_untouched ws (r * row_words + k) v (q * row_words) 0 row_words (omega arith) ∙ sym (row_other (rows_in ws) r (slice_set (rows_in ws r) k v) q h)
 
-  pub cell_put : rows_of (slice_set ws (r * row_words + k) v) ≡ with_row (rows_of ws) r (slice_set (rows_of ws r) k v)
+  pub cell_put : rows_in (slice_set ws (r * row_words + k) v) ≡ with_row (rows_in ws) r (slice_set (rows_in ws r) k v)
   cell_put = fun_ext (λ q. at_cell q (ℕ_discrete q r))
 
-pub cell_get : (ws : List ℕ) (r k : ℕ) → k < row_words → slice_index ws (r * row_words + k) ≡ slice_index (rows_of ws r) k
+pub cell_get : (ws : List ℕ) (r k : ℕ) → k < row_words → slice_index ws (r * row_words + k) ≡ slice_index (rows_in ws r) k
 cell_get ws r k h = ap (λ (x : ℕ). slice_index ws x) (omega arith) ∙ sym (get_d_load ws (r * row_words) 0 row_words k h)
 
 -- the rows tell the words: nothing is left out of the state
-word_of_row : (ws : List ℕ) (i : ℕ) → slice_index ws i ≡ slice_index (rows_of ws (i / row_words)) (i % row_words)
+word_of_row : (ws : List ℕ) (i : ℕ) → slice_index ws i ≡ slice_index (rows_in ws (i / row_words)) (i % row_words)
 word_of_row ws i = ap (λ (x : ℕ). slice_index ws x) (omega arith) ∙ sym (get_d_load ws (i / row_words * row_words) 0 row_words (i % row_words) (omega arith))
 
-pub rows_tell : (ws vs : List ℕ) → length ws ≡ length vs → rows_of ws ≡ rows_of vs → ws ≡ vs
+pub rows_tell : (ws vs : List ℕ) → length ws ≡ length vs → rows_in ws ≡ rows_in vs → ws ≡ vs
 rows_tell ws vs e h =
     ext_get_or 0 ws vs e
     (λ i _. word_of_row ws i ∙ ap (λ (s : Rows). slice_index (s (i / row_words)) (i % row_words)) h ∙ sym (word_of_row vs i))

@@ -9,6 +9,7 @@ use Rattle.bucket.specs.declared.Octets.{Octets}
 use Rattle.gate.specs.declared.Gate.{Gate}
 use Rattle.meter.specs.declared.Meter.{Meter}
 use Rattle.scheduler.specs.declared.Scheduler.{Scheduler}
+use Rattle.bank.specs.declared.Bank.{Bank}
 use Rattle.bank.specs.declared.Component.{Component}
 use Rattle.bank.specs.declared.Port.{Port}
 use Rattle.bank.specs.declared.Counters.{Counters}
@@ -30,8 +31,11 @@ store ws a k (v ∷ vs) = store (slice_set ws (a + k) v) a (suc k) vs
 abbrev pub Rows : Type 0
 Rows = ℕ → List ℕ
 
-abbrev pub rows_of : List ℕ → Rows
-rows_of ws r = load ws (r * row_words) 0 row_words
+abbrev pub rows_in : List ℕ → Rows
+rows_in ws r = load ws (r * row_words) 0 row_words
+
+abbrev pub rows_of : Bank → Rows
+rows_of b = rows_in b.words
 
 -- row r is vs, and every other row is as it was
 unfoldable pub with_row : Rows → ℕ → List ℕ → Rows

@@ -3,8 +3,8 @@
 // no fraction is ever lost (01, Meters; 01, Schedulers).
 #![tactic(auto)]
 
-ghost use Rattle.std.specs.Prelude.{◌≡◌, ℕ, ◌+◌, ◌-◌, ◌*◌, ◌/◌, ◌≤◌, ◌<◌, min};
-ghost use Rattle.bucket.specs.Meaning.{grown, wait_for, ceiling, full_of};
+ghost use Rattle.std.specs.Prelude.{◌≡◌};
+ghost use Rattle.bucket.specs.Meaning.{grown, wait_for, full_of};
 
 // Bits per second.
 #[derive(Clone, Copy)]
@@ -22,63 +22,16 @@ pub const GRAINS: u64 = 8_000_000_000;
 pub fn full(burst: Octets) -> u64
     ensures { result ≡ full_of burst }
 {
-    let octets = burst.0 as u64;
-    if octets < 1_000_000 {
-        octets * GRAINS
-    } else {
-        1_000_000 * GRAINS
-    }
+    (burst.0 as u64).min(1_000_000) * GRAINS
 }
 
-// The level `d` ns after it was `level`, at a rate of `rate` and never above `cap`, for every number that fits: nothing wraps.
+// The level `d` ns after it was `level`, at a rate of `rate` and never above `cap`, for every number that fits: what doesn't fit 64 bits is
+// above the cap too.
 // Ruled out: a product that wraps and so leaves the bucket nearly empty after a quiet spell; a level above the cap.
 pub fn grow(level: u64, rate: Rate, cap: u64, d: u64) -> u64
     ensures { result ≡ grown level rate.0 cap d }
 {
-    if cap <= level {
-        return cap;
-    }
-    level + product(rate, d, cap - level)
-}
-
-// The product, or `most` where it is larger. The first test holds for every rate in range and a spell below a second.
-fn product(rate: Rate, d: u64, most: u64) -> u64
-    ensures { result ≡ min most (rate.0 * d) }
-{
-    let r = rate.0;
-    if (r < 17_179_869_184) & (d < 1_073_741_824) {
-        return lesser(most, r * d);
-    }
-    if r < 4_294_967_296 {
-        return tall(r, d, most);
-    }
-    if d < 4_294_967_296 {
-        return tall(d, r, most);
-    }
-    most
-}
-
-// The product where `a` is below 2^32: `x` is taken in two halves, the upper one first.
-fn tall(a: u64, x: u64, most: u64) -> u64
-    requires { a < 4_294_967_296 }
-    ensures { result ≡ min most (a * x) }
-{
-    let upper = a * (x / 4_294_967_296);
-    if 4_294_967_296 <= upper {
-        return most;
-    }
-    let high = upper * 4_294_967_296;
-    let low = a * (x % 4_294_967_296);
-    if most <= high {
-        return most;
-    }
-    high + lesser(most - high, low)
-}
-
-fn lesser(a: u64, b: u64) -> u64
-    ensures { result ≡ min a b }
-{
-    if a < b { a } else { b }
+    level.saturating_add(rate.0.saturating_mul(d)).min(cap)
 }
 
 // The least whole number of nanoseconds after which a bucket that holds `level` holds `need`. A rate of 0 adds nothing: 0 stands for it,
@@ -87,23 +40,8 @@ fn lesser(a: u64, b: u64) -> u64
 pub fn wait(level: u64, rate: Rate, need: u64) -> u64
     ensures { result ≡ wait_for level rate.0 need }
 {
-    divided(lacking(level, need), rate)
-}
-
-fn lacking(level: u64, need: u64) -> u64
-    ensures { result ≡ need - level }
-{
-    if level < need { need - level } else { 0 }
-}
-
-// The quotient, rounded up; by 0, 0.
-fn divided(n: u64, rate: Rate) -> u64
-    ensures { result ≡ ceiling n rate.0 }
-{
-    let r = rate.0;
-    if r == 0 {
+    if rate.0 == 0 {
         return 0;
     }
-    let whole = n / r;
-    if n % r == 0 { whole } else { whole + 1 }
+    need.saturating_sub(level).div_ceil(rate.0)
 }

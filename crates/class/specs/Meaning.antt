@@ -1,7 +1,5 @@
 -- The traffic class of an internal priority: the standard's recommended mapping (01, A frame's path).
-use Rattle.std.specs.Prelude.{ℕ, ◌-◌, Bool, cond, ◌&&◌, List, [], ◌∷◌, leb, get_or}
-use Rattle.class.specs.declared.Class.{Class}
-use Rattle.class.specs.declared.Class.TheVariants.{Of, Refused}
+use Rattle.std.specs.Prelude.{ℕ, ◌-◌, Bool, cond, ◌&&◌, List, [], ◌∷◌, Option, Some, None, leb, get_or}
 
 -- a row for each priority: its class where there are 1 to 8 classes
 abbrev priority0 : List ℕ
@@ -43,11 +41,11 @@ importance = 1 ∷ 0 ∷ 2 ∷ 3 ∷ 4 ∷ 5 ∷ 6 ∷ 7 ∷ []
 abbrev pub in_table : ℕ → ℕ → Bool
 in_table priority classes = leb priority 7 && leb 1 classes && leb classes 8
 
--- any other is a number out of range
-unfoldable pub traffic_class_of : ℕ → ℕ → Class
-traffic_class_of priority classes = cond (in_table priority classes) (Of (class_at priority classes)) Refused
+-- any other is a number out of range, and has no class
+unfoldable pub traffic_class_of : ℕ → ℕ → Option ℕ
+traffic_class_of priority classes = cond (in_table priority classes) (Some (class_at priority classes)) None
 
 -- document 01's number for an answer: refusal 3; 0 where there is a class
-abbrev pub class_number_of : Class → ℕ
-class_number_of (Of class) = 0
-class_number_of Refused = 3
+abbrev pub class_number_of : Option ℕ → ℕ
+class_number_of (Some class) = 0
+class_number_of None = 3

@@ -16,22 +16,16 @@ const CLASSES: [[u8; 8]; 8] = [
     [0, 1, 2, 3, 4, 5, 6, 7],
 ];
 
-// `class_number_of` in specs/ has document 01's number for each case.
-#[derive(Clone, Copy)]
-pub enum Class {
-    Of(u8),
-    // A priority above 7, or a count of classes outside 1 to 8.
-    Refused,
-}
-
-// The class of `priority` where there are `classes` traffic classes.
+// The class of `priority` where there are `classes` traffic classes; none for a priority above 7, or a count outside 1 to 8: document 01
+// refuses those with its number 3 (`class_number_of` in specs/).
 // Ruled out: the class of the count before or after (priority 0 of 8 classes is 1, of 5 it is 0); a class for a count of 0 or 9.
-pub fn traffic_class(priority: u8, classes: u8) -> Class
+#[tactic(auto, unfolding(crate::specs::Meaning::traffic_class_of, crate::specs::Meaning::class_rows))]
+pub fn traffic_class(priority: u8, classes: u8) -> Option<u8>
     ensures { result ≡ traffic_class_of priority classes }
 {
     if (priority <= 7) & (1 <= classes) & (classes <= 8) {
-        Class::Of(CLASSES[priority as usize][(classes - 1) as usize])
+        Some(CLASSES[priority as usize][(classes - 1) as usize])
     } else {
-        Class::Refused
+        None
     }
 }

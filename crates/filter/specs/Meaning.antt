@@ -1,16 +1,11 @@
 -- What a row of the filter table says (01, Records, kind 2 and the filter table's paragraph), which rows start refuses (01, refusals 7 and 8),
 -- and which row a frame uses (01, A frame's path, step 1).
-use Rattle.std.specs.Prelude.{ℕ, zero, suc, ◌+◌, ◌-◌, Bool, true, false, not, ◌&&◌, ◌||◌, cond, List, eqb, leb, ltb, get_or}
-use Rattle.sizes.specs.Meaning.{last_gate, last_meter, last_scheduler}
+use Rattle.std.specs.Prelude.{ℕ, zero, suc, ◌+◌, ◌-◌, Bool, true, false, not, ◌&&◌, ◌||◌, cond, List, eqb, leb, ltb, get_or, Option, Some, None, is_some}
+use Rattle.sizes.specs.Meaning.{filter_count, last_gate, last_meter, last_scheduler}
 use Rattle.frame.specs.Meaning.{length_of}
 use Rattle.bank.specs.Meaning.{Rows, gate_is_set, meter_is_set, scheduler_is_set, burst, component}
 use Rattle.filter.specs.declared.Filter.{Filter}
-use Rattle.filter.specs.declared.Asks.{Asks}
-use Rattle.filter.specs.declared.Asks.TheVariants.{Fits, Missing, ExceedsBurst, Any}
 use Rattle.filter.specs.declared.Key.{Key}
-use Rattle.filter.specs.declared.Question.{Question}
-use Rattle.filter.specs.declared.Found.{Found}
-use Rattle.filter.specs.declared.Found.TheVariants.{Nothing, At}
 
 -- ---- a row
 
@@ -56,7 +51,30 @@ fits_of k f = (eqb f.any_handle 1 || eqb f.handle k.handle) && (eqb f.priority 8
 abbrev pub row_of : List Filter → ℕ → Filter
 row_of rows i = get_or rows i no_row
 
+-- ---- a search
+
 -- what is asked of a row: that a frame uses it, that start refuses it with 7, that start refuses it with 8, nothing
+pub data Asks : Type 0 where
+  Fits : Asks
+  Missing : Asks
+  ExceedsBurst : Asks
+  Any : Asks
+
+-- a question on the places `from` up to and without `to`. Only `Fits` looks at the key
+pub record Question : Type 0 where
+  pub from : ℕ
+  pub to : ℕ
+  pub asks : Asks
+  pub key : Key
+
+-- a question on every place
+abbrev pub of_every_place : Asks → Key → Question
+of_every_place asks key = record { from = 0; to = filter_count; asks = asks; key = key }
+
+-- of what start asks, which matches nothing
+abbrev pub no_key : Key
+no_key = record { handle = 0; priority = 0 }
+
 abbrev pub asked : Asks → Rows → Key → Filter → Bool
 asked Fits s k f = fits_of k f && counts_of s f
 asked Missing s k f = is_filter_of f && names_missing s f
@@ -66,10 +84,14 @@ asked Any s k f = true
 unfoldable pub row_answers : Rows → Question → Filter → Bool
 row_answers s q f = asked q.asks s q.key f
 
+-- what is found: no row, or a place and its row
+abbrev pub Found : Type 0
+Found = Option (ℕ × Filter)
+
 -- the rows are read in ascending identifier: of the n places from i on, the first whose row passes the test
 abbrev pub first_found : (Filter → Bool) → List Filter → ℕ → ℕ → Found
-first_found test rows i zero = Nothing
-first_found test rows i (suc n) = cond (test (row_of rows i)) (At i (row_of rows i)) (first_found test rows (i + 1) n)
+first_found test rows i zero = None
+first_found test rows i (suc n) = cond (test (row_of rows i)) (Some (i, row_of rows i)) (first_found test rows (i + 1) n)
 
 -- up to and without `to`
 abbrev pub search_from : Rows → Question → List Filter → ℕ → Found
@@ -79,5 +101,4 @@ unfoldable pub search_of : Rows → Question → List Filter → Found
 search_of s q rows = search_from s q rows q.from
 
 abbrev pub is_found : Found → Bool
-is_found Nothing = false
-is_found (At i row) = true
+is_found found = is_some found

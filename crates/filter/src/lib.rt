@@ -2,12 +2,14 @@
 // path, step 1). The table is lent; place n is filter n's.
 #![tactic(auto)]
 
-ghost use Rattle.std.specs.Prelude.{cond, ◌≡◌, ◌+◌, ltb, set};
+ghost use Rattle.std.specs.Prelude.{◌≡◌, Bool, false, set};
+ghost use Rattle.std.specs.Fn.{FnReturnsAt};
+ghost use Rattle.sizes.specs.Meaning.{filter_count};
 ghost use Rattle.bank.specs.Meaning.{rows_of};
-ghost use Rattle.filter.specs.Meaning.{no_row, row_in_range, is_filter_of, names_missing, exceeds_burst, counts_of, fits_of, row_of, row_answers, search_of};
-ghost use Rattle.filter.specs.Seek.{near_of, passable_of, seek_of};
+ghost use Rattle.filter.specs.declared.Filter.{Filter};
+ghost use Rattle.filter.specs.Meaning.{no_row, row_in_range, is_filter_of, names_missing, exceeds_burst, counts_of, fits_of, row_of, Fits, Missing, ExceedsBurst, no_key, of_every_place, first_found, search_of};
 
-use bank::Words;
+use bank::Bank;
 
 // A row, as document 01's kind 2 has it but for the identifier, which is the row's place. All numbers: whatever a caller leaves in the
 // table is a row. A row of zeros is empty.
@@ -30,19 +32,6 @@ pub struct Filter {
     pub scheduler: u8,
 }
 
-// What a search asks of a row.
-#[derive(Clone, Copy)]
-pub enum Asks {
-    // Whether a frame uses it.
-    Fits,
-    // Whether start refuses it with 7.
-    Missing,
-    // Whether start refuses it with 8.
-    ExceedsBurst,
-    // Nothing: every row answers.
-    Any,
-}
-
 // What of a frame a row has to match.
 #[derive(Clone, Copy)]
 pub struct Key {
@@ -50,93 +39,44 @@ pub struct Key {
     pub priority: u8,
 }
 
-// A question on the places `from` up to and without `to`. Only `Fits` looks at the key.
-#[derive(Clone, Copy)]
-pub struct Question {
-    pub from: usize,
-    pub to: usize,
-    pub asks: Asks,
-    pub key: Key,
-}
-
-// What a search found: no row, or a row and its place.
-#[derive(Clone, Copy)]
-pub enum Found {
-    Nothing,
-    At(usize, Filter),
-}
-
-// The first row that answers, in ascending identifier.
-// Ruled out: the last row that answers; a row for any handle passed over.
-pub fn search(table: &[Filter], bank: &Words, q: Question) -> Found
-    ensures { result ≡ search_of (rows_of bank.now) q table.now }
+// The row that a frame uses, and its place: the first that fits the frame and counts. Whether it counts is asked last, since most rows are
+// ruled out before.
+// Ruled out: the last row that answers; a row that names a missing gate used by a frame.
+pub fn matching(table: &[Filter], bank: &Bank, key: Key) -> Option<(usize, Filter)>
+    ensures { result ≡ search_of (rows_of bank.now) (of_every_place Fits key) table.now }
 {
-    let to = q.to;
-    let mut i = seek(table, q, q.from);
-    while i < to {
-        let row = row_at(table, i);
-        if answers(row, bank, q) {
-            return found_at(i, row);
+    search(table, |row| row.fits(key) && row.counts(bank))
+}
+
+// The first row that start refuses with 7, and its place.
+// Ruled out: the last row that answers; a row that is no filter holding up start.
+pub fn first_missing(table: &[Filter], bank: &Bank) -> Option<(usize, Filter)>
+    ensures { result ≡ search_of (rows_of bank.now) (of_every_place Missing no_key) table.now }
+{
+    search(table, |row| row.is_filter() && row.names_missing(bank))
+}
+
+// The first row that start refuses with 8, and its place.
+// Ruled out: the last row that answers; a row that is no filter holding up start.
+pub fn first_exceeding(table: &[Filter], bank: &Bank) -> Option<(usize, Filter)>
+    ensures { result ≡ search_of (rows_of bank.now) (of_every_place ExceedsBurst no_key) table.now }
+{
+    search(table, |row| row.is_filter() && row.exceeds_burst(bank))
+}
+
+// The first row that passes a test, in ascending identifier, and its place. The places past the table's end are empty, so that the test
+// has to fail of an empty row.
+fn search<F: Fn(&Filter) -> bool>(table: &[Filter], passes: F) -> Option<(usize, Filter)>
+    requires { F.IsAlwaysCallable passes }
+    ensures { (test : Filter → Bool) → ((row : Filter) (b : Bool) → FnReturnsAt F.Fn passes row b → b ≡ test row) → test no_row ≡ false → result ≡ first_found test table.now 0 filter_count }
+{
+    let rows = &table[..table.len().min(sizes::FILTERS)];
+    for (i, row) in rows.iter().enumerate() {
+        if passes(row) {
+            return Some((i, *row));
         }
-        let next = seek(table, q, i + 1);
-        i = next;
     }
-    found_nothing()
-}
-
-fn found_at(i: usize, row: Filter) -> Found
-    ensures { result ≡ Found.At i row }
-{
-    Found::At(i, row)
-}
-
-fn found_nothing() -> Found
-    ensures { result ≡ Found.Nothing }
-{
-    Found::Nothing
-}
-
-// The first place from `from` on that a frame's handle does not rule out: a search passes most rows over here, after two loads each.
-fn seek(table: &[Filter], q: Question, from: usize) -> usize
-    ensures { result ≡ seek_of q table.now from }
-{
-    let end = passable(q, table.len());
-    let mut i = from;
-    while i < end {
-        let row = row_at(table, i);
-        if near(row, q.key.handle) {
-            return i;
-        }
-        i += 1;
-    }
-    i
-}
-
-// Up to which place of a table of `rows` rows are passed over.
-#[tactic(auto, unfolding(crate::specs::Seek::passable_of))]
-fn passable(q: Question, rows: usize) -> usize
-    ensures { result ≡ passable_of q rows }
-{
-    let asks = q.asks;
-    match asks {
-        Asks::Fits => lesser(q.to, rows),
-        Asks::Missing => 0,
-        Asks::ExceedsBurst => 0,
-        Asks::Any => 0,
-    }
-}
-
-fn lesser(n: usize, m: usize) -> usize
-    ensures { result ≡ cond (ltb n m) n m }
-{
-    if n < m { n } else { m }
-}
-
-#[tactic(auto, unfolding(crate::specs::Seek::near_of))]
-fn near(row: Filter, handle: u32) -> bool
-    ensures { result ≡ near_of handle row }
-{
-    (row.handle == handle) | (row.any_handle == 1)
+    None
 }
 
 // The row at a place; past the table's end, the empty one.
@@ -144,10 +84,7 @@ fn near(row: Filter, handle: u32) -> bool
 pub fn row_at(table: &[Filter], i: usize) -> Filter
     ensures { result ≡ row_of table.now i }
 {
-    if table.len() <= i {
-        return empty();
-    }
-    table[i]
+    table.get(i).copied().unwrap_or_default()
 }
 
 // Stores a row at its place; past the table's end, nothing.
@@ -155,111 +92,92 @@ pub fn row_at(table: &[Filter], i: usize) -> Filter
 pub fn put_row(table: &mut [Filter], place: usize, row: Filter)
     ensures { table.new ≡ set table.old place row }
 {
-    if table.len() <= place {
-        return;
+    if let Some(at) = table.get_mut(place) {
+        *at = row;
     }
-    table[place] = row;
-}
-
-// Whether a row is what a question asks for. Whether it counts is asked last: most rows are ruled out before.
-// Ruled out: a row that names a missing gate used by a frame; a row that is no filter holding up start.
-#[tactic(auto, unfolding(crate::specs::Meaning::row_answers))]
-pub fn answers(row: Filter, bank: &Words, q: Question) -> bool
-    ensures { result ≡ row_answers (rows_of bank.now) q row }
-{
-    let asks = q.asks;
-    match asks {
-        Asks::Fits => {
-            let key = q.key;
-            if fits(row, key) {
-                counts(row, bank)
-            } else {
-                false
-            }
-        }
-        Asks::Missing => is_filter(row) & missing(row, bank),
-        Asks::ExceedsBurst => is_filter(row) & exceeds_burst(row, bank),
-        Asks::Any => true,
-    }
-}
-
-// Whether handle and priority of a frame match the row's.
-// Ruled out: any-handle taken for handle 0; priority 8 taken for a priority.
-#[tactic(auto, unfolding(crate::specs::Meaning::fits_of))]
-pub fn fits(row: Filter, key: Key) -> bool
-    ensures { result ≡ fits_of key row }
-{
-    ((row.any_handle == 1) | (row.handle == key.handle))
-        & ((row.priority == 8) | (row.priority == key.priority))
-}
-
-// Whether a row counts after start; any other counts as empty.
-// Ruled out: a row that names a missing meter counting; a max SDU that the burst just holds refused.
-#[tactic(auto, unfolding(crate::specs::Meaning::counts_of))]
-pub fn counts(row: Filter, bank: &Words) -> bool
-    ensures { result ≡ counts_of (rows_of bank.now) row }
-{
-    is_filter(row) & !missing(row, bank) & !exceeds_burst(row, bank)
-}
-
-// Whether there is a filter at a place, as the records before start see it.
-// Ruled out: a used row with a field out of range; an unused one.
-#[tactic(auto, unfolding(crate::specs::Meaning::is_filter_of))]
-pub fn is_filter(row: Filter) -> bool
-    ensures { result ≡ is_filter_of row }
-{
-    (row.used == 1) & in_range(row)
 }
 
 // The empty row.
 // Ruled out: a row that is used; a row with a handle.
-pub fn empty() -> Filter
-    ensures { result ≡ no_row }
-{
-    Filter {
-        handle: 0,
-        max_sdu: 0,
-        used: 0,
-        any_handle: 0,
-        priority: 0,
-        gate: 0,
-        oversize_block: 0,
-        meter: 0,
-        scheduler: 0,
+impl Default for Filter {
+    ghost is_default = { λ row. row ≡ no_row };
+
+    fn default() -> Filter {
+        Filter {
+            handle: 0,
+            max_sdu: 0,
+            used: 0,
+            any_handle: 0,
+            priority: 0,
+            gate: 0,
+            oversize_block: 0,
+            meter: 0,
+            scheduler: 0,
+        }
     }
 }
 
-#[tactic(auto, unfolding(crate::specs::Meaning::row_in_range))]
-fn in_range(row: Filter) -> bool
-    ensures { result ≡ row_in_range row }
-{
-    (row.any_handle <= 1)
-        & ((row.any_handle == 0) | (row.handle == 0))
-        & (row.priority <= 8)
-        & (row.gate <= sizes::LAST_GATE)
-        & (row.max_sdu <= 2000)
-        & (row.oversize_block <= 1)
-        & ((row.meter <= sizes::LAST_METER) | (row.meter == 255))
-        & ((row.scheduler <= sizes::LAST_SCHEDULER) | (row.scheduler == 255))
-}
+impl Filter {
+    // Whether handle and priority of a frame match the row's. The handle alone rules most rows out, after two loads each.
+    // Ruled out: any-handle taken for handle 0; priority 8 taken for a priority.
+    #[tactic(auto, unfolding(crate::specs::Meaning::fits_of))]
+    pub fn fits(&self, key: Key) -> bool
+        ensures { result ≡ fits_of key self.now }
+    {
+        ((self.any_handle == 1) | (self.handle == key.handle))
+            && ((self.priority == 8) | (self.priority == key.priority))
+    }
 
-// 01, refusal 7.
-#[tactic(auto, unfolding(crate::specs::Meaning::names_missing))]
-fn missing(row: Filter, bank: &Words) -> bool
-    ensures { result ≡ names_missing (rows_of bank.now) row }
-{
-    !bank::gate_set(bank, row.gate as usize)
-        | ((row.meter != 255) & !bank::meter_set(bank, row.meter as usize))
-        | ((row.scheduler != 255) & !bank::scheduler_set(bank, row.scheduler as usize))
-}
+    // Whether a row counts after start; any other counts as empty.
+    // Ruled out: a row that names a missing meter counting; a max SDU that the burst just holds refused.
+    #[tactic(auto, unfolding(crate::specs::Meaning::counts_of))]
+    pub fn counts(&self, bank: &Bank) -> bool
+        ensures { result ≡ counts_of (rows_of bank.now) self.now }
+    {
+        self.is_filter() && !self.names_missing(bank) && !self.exceeds_burst(bank)
+    }
 
-// 01, refusal 8.
-#[tactic(auto, unfolding(crate::specs::Meaning::exceeds_burst))]
-fn exceeds_burst(row: Filter, bank: &Words) -> bool
-    ensures { result ≡ exceeds_burst (rows_of bank.now) row }
-{
-    let burst = bank::burst_at(bank, row.scheduler as usize);
-    let component = bank::component_at(bank);
-    (row.scheduler != 255)
-        & ((row.max_sdu == 0) | frame::exceeds(row.max_sdu, component.overhead, burst))
+    // Whether there is a filter at a place, as the records before start see it.
+    // Ruled out: a used row with a field out of range; an unused one.
+    #[tactic(auto, unfolding(crate::specs::Meaning::is_filter_of))]
+    pub fn is_filter(&self) -> bool
+        ensures { result ≡ is_filter_of self.now }
+    {
+        (self.used == 1) & self.in_range()
+    }
+
+    #[tactic(auto, unfolding(crate::specs::Meaning::row_in_range))]
+    fn in_range(&self) -> bool
+        ensures { result ≡ row_in_range self.now }
+    {
+        (self.any_handle <= 1)
+            & ((self.any_handle == 0) | (self.handle == 0))
+            & (self.priority <= 8)
+            & (self.gate <= sizes::LAST_GATE)
+            & (self.max_sdu <= 2000)
+            & (self.oversize_block <= 1)
+            & ((self.meter <= sizes::LAST_METER) | (self.meter == 255))
+            & ((self.scheduler <= sizes::LAST_SCHEDULER) | (self.scheduler == 255))
+    }
+
+    // 01, refusal 7.
+    #[tactic(auto, unfolding(crate::specs::Meaning::names_missing))]
+    fn names_missing(&self, bank: &Bank) -> bool
+        ensures { result ≡ names_missing (rows_of bank.now) self.now }
+    {
+        !bank.gate_set(self.gate as usize)
+            | ((self.meter != 255) & !bank.meter_set(self.meter as usize))
+            | ((self.scheduler != 255) & !bank.scheduler_set(self.scheduler as usize))
+    }
+
+    // 01, refusal 8.
+    #[tactic(auto, unfolding(crate::specs::Meaning::exceeds_burst))]
+    fn exceeds_burst(&self, bank: &Bank) -> bool
+        ensures { result ≡ exceeds_burst (rows_of bank.now) self.now }
+    {
+        let burst = bank.burst_at(self.scheduler as usize);
+        let component = bank.component_at();
+        (self.scheduler != 255)
+            & ((self.max_sdu == 0) | frame::exceeds(self.max_sdu, component.overhead, burst))
+    }
 }

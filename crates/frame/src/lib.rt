@@ -14,15 +14,11 @@ pub fn length(msdu: u16, overhead: u8) -> Octets
     Octets(msdu as u32 + overhead as u32)
 }
 
-// Whether such a length is more than a burst, for every number that fits: an overhead that no port record gave could wrap the sum, so it is
-// taken off the burst.
+// Whether such a length is more than a burst, for every number that fits: with an overhead that no port record gave the sum need not fit 64
+// bits, and is more than every burst then.
 // Ruled out: a length that equals the burst; a sum that wraps and so seems small.
 pub fn exceeds(msdu: u16, overhead: u64, burst: Octets) -> bool
     ensures { result ≡ ltb burst.0 (length_of msdu overhead) }
 {
-    let octets = burst.0 as u64;
-    if octets < overhead {
-        return true;
-    }
-    octets - overhead < msdu as u64
+    (burst.0 as u64) < overhead.saturating_add(msdu as u64)
 }

@@ -1,12 +1,10 @@
 -- The cases of a step: each from the facts that the code has in hand, and then the five ways in which a step can go.
-use Rattle.std.specs.Prelude.{ℕ, ◌+◌, ◌-◌, ◌≤◌, ◌<◌, true, false, ◌||◌, List, ◌≡◌, refl, eqb, leb}
+use Rattle.std.specs.Prelude.{ℕ, ◌+◌, ◌-◌, ◌≤◌, ◌<◌, true, false, ◌||◌, Option, Some, None, List, ◌≡◌, refl, eqb, leb}
 use Rattle.std.proofs.Common.{sym, ap, ◌∙◌, arith}
 use borrow.Author.Tests.{eq-eqb, ne_eqb, le-leb, lt-leb, eqb-true, leb-true}
 use Rattle.logic.specs.Laws.{if_by}
 use Rattle.gate.specs.declared.Entry.{Entry}
 use Rattle.gate.specs.declared.Found.{Found}
-use Rattle.gate.specs.declared.InForce.{InForce}
-use Rattle.gate.specs.declared.InForce.TheVariants.{Nothing, Here}
 use Rattle.gate.specs.declared.Gate.{Gate}
 use Rattle.gate.specs.declared.Stepped.{Stepped}
 use Rattle.gate.specs.declared.Outcome.TheVariants.{Passed, Blocked, Closed, TooManyOctets}
@@ -36,19 +34,19 @@ module _ (g : Gate) where
       limited_exceeded h = rw (ne_eqb f.entry.maximum no_limit some, ← s, ← l, lt-leb n left h)
 
   module _ (n : ℕ) where
-    pub passed_record_open : g.opened ≡ true → passed_of g Nothing n ≡ gate_answer g (Passed g.ipv)
+    pub passed_record_open : g.opened ≡ true → passed_of g None n ≡ gate_answer g (Passed g.ipv)
     unfolding passed_of
     passed_record_open e = rw e
 
-    pub passed_record_closed : g.opened ≡ false → passed_of g Nothing n ≡ closed_of g
+    pub passed_record_closed : g.opened ≡ false → passed_of g None n ≡ closed_of g
     unfolding passed_of
     passed_record_closed e = rw e
 
-    pub passed_entry_open : (f : Found) → f.entry.opened ≡ true → passed_of g (Here f) n ≡ limited_of g f n
+    pub passed_entry_open : (f : Found) → f.entry.opened ≡ true → passed_of g (Some f) n ≡ limited_of g f n
     unfolding passed_of
     passed_entry_open f e = rw e
 
-    pub passed_entry_closed : (f : Found) → f.entry.opened ≡ false → passed_of g (Here f) n ≡ closed_of g
+    pub passed_entry_closed : (f : Found) → f.entry.opened ≡ false → passed_of g (Some f) n ≡ closed_of g
     unfolding passed_of
     passed_entry_closed f e = rw e
 
@@ -63,31 +61,31 @@ module _ (g : Gate) where
 
 -- ---- the ways
 
-pub here_same : (f g : Found) → Here f ≡ Here g → f ≡ g
+pub here_same : (f g : Found) → Some f ≡ Some g → f ≡ g
 here_same f g e = cc
 
-pub never_here : (f : Found) → Nothing ≡ Here f → ⊥
+pub never_here : (f : Found) → None ≡ Some f → ⊥
 never_here f e = let z : ◌≡◌ {A = ℕ} 0 1 = cc in omega arith
 
 -- what a frame of n octets gets from the gate g, by what is in force: `free` is a pass without octet limit, `counted` one within it
-pub data Way (g : Gate) (h : InForce) (n : ℕ) : Stepped → Type 0 where
+pub data Way (g : Gate) (h : Option Found) (n : ℕ) : Stepped → Type 0 where
   blocked : Way g h n (gate_answer g Blocked)
   closed : Way g h n (gate_answer (with_invalid_receive g) Closed)
   exceeded : Way g h n (gate_answer (with_octets g) TooManyOctets)
-  free : (p : ℕ) → ((f : Found) → h ≡ Here f → f.entry.maximum ≡ no_limit) → Way g h n (gate_answer g (Passed p))
-  counted : (f : Found) → h ≡ Here f → n ≤ left_of g f → Way g h n (gate_answer (with_spent g f.start (spent_of g f.start + n)) (Passed f.entry.ipv))
+  free : (p : ℕ) → ((f : Found) → h ≡ Some f → f.entry.maximum ≡ no_limit) → Way g h n (gate_answer g (Passed p))
+  counted : (f : Found) → h ≡ Some f → n ≤ left_of g f → Way g h n (gate_answer (with_spent g f.start (spent_of g f.start + n)) (Passed f.entry.ipv))
 
-limited_way : (g : Gate) (f : Found) (n : ℕ) → Way g (Here f) n (limited_of g f n)
+limited_way : (g : Gate) (f : Found) (n : ℕ) → Way g (Some f) n (limited_of g f n)
 unfolding limited_of
 limited_way g f n =
-    if_by (Way g (Here f) n) (eqb f.entry.maximum no_limit) _ _
+    if_by (Way g (Some f) n) (eqb f.entry.maximum no_limit) _ _
     (λ e. free f.entry.ipv (λ f' q. ap (λ (x : Found). x.entry.maximum) (sym (here_same f f' q)) ∙ eqb-true _ _ e))
-    (λ e. if_by (Way g (Here f) n) (leb n (left_of g f)) _ _ (λ l. counted f refl (leb-true _ _ l)) (λ l. exceeded))
+    (λ e. if_by (Way g (Some f) n) (leb n (left_of g f)) _ _ (λ l. counted f refl (leb-true _ _ l)) (λ l. exceeded))
 
-passed_way : (g : Gate) (h : InForce) (n : ℕ) → Way g h n (passed_of g h n)
+passed_way : (g : Gate) (h : Option Found) (n : ℕ) → Way g h n (passed_of g h n)
 unfolding passed_of
-passed_way g Nothing n = if_by (Way g Nothing n) g.opened _ _ (λ e. free g.ipv (λ f q. absurd (never_here f q))) (λ e. closed)
-passed_way g (Here f) n = if_by (Way g (Here f) n) f.entry.opened _ _ (λ e. limited_way g f n) (λ e. closed)
+passed_way g None n = if_by (Way g None n) g.opened _ _ (λ e. free g.ipv (λ f q. absurd (never_here f q))) (λ e. closed)
+passed_way g (Some f) n = if_by (Way g (Some f) n) f.entry.opened _ _ (λ e. limited_way g f n) (λ e. closed)
 
 pub step_way : (g : Gate) (es : List Entry) (t n : ℕ) → Way g (in_force_of es g.base t) n (gate_step_of g es t n)
 unfolding gate_step_of

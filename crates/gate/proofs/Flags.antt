@@ -1,9 +1,9 @@
 -- What a frame does to the flags of a gate: each is set by its own drop alone, and only if its block is enabled; no frame lifts one.
-use Rattle.std.specs.Prelude.{ℕ, Bool, true, false, ◌||◌, ◌&&◌, ◌≡◌, refl, eqb}
+use Rattle.std.specs.Prelude.{ℕ, Bool, true, false, ◌||◌, ◌&&◌, Option, ◌≡◌, refl, eqb}
 use mathlib.Core.List.{List, [], ◌∷◌}
 use Rattle.std.proofs.Common.{◌∙◌}
 use Rattle.gate.specs.declared.Entry.{Entry}
-use Rattle.gate.specs.declared.InForce.{InForce}
+use Rattle.gate.specs.declared.Found.{Found}
 use Rattle.gate.specs.declared.Gate.{Gate}
 use Rattle.gate.specs.declared.Stepped.{Stepped}
 use Rattle.gate.specs.declared.Outcome.TheVariants.{Blocked}
@@ -20,7 +20,7 @@ or_right false b e = e
 
 -- ---- one frame
 module _ (g : Gate) where
-  way_invalid_receive : (h : InForce) (n : ℕ) (r : Stepped) → Way g h n r
+  way_invalid_receive : (h : Option Found) (n : ℕ) (r : Stepped) → Way g h n r
       → r.gate.invalid_receive_flag ≡ (g.invalid_receive_flag || (eqb (gate_number_of r.outcome) 4 && g.invalid_receive_block))
   way_invalid_receive h n r blocked = or_false _
   way_invalid_receive h n r closed = refl
@@ -28,7 +28,7 @@ module _ (g : Gate) where
   way_invalid_receive h n r (free p u) = or_false _
   way_invalid_receive h n r (counted f e l) = or_false _
 
-  way_octets : (h : InForce) (n : ℕ) (r : Stepped) → Way g h n r
+  way_octets : (h : Option Found) (n : ℕ) (r : Stepped) → Way g h n r
       → r.gate.octets_flag ≡ (g.octets_flag || (eqb (gate_number_of r.outcome) 5 && g.octets_block))
   way_octets h n r blocked = or_false _
   way_octets h n r closed = or_false _

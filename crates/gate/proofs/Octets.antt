@@ -1,5 +1,5 @@
 -- The octets left in an interval: whole when it begins, less by what passes, and so never exceeded, over every run of frames whose times do not go back.
-use Rattle.std.specs.Prelude.{ℕ, ◌+◌, ◌≤◌, ◌<◌, true, false, ◌≡◌}
+use Rattle.std.specs.Prelude.{ℕ, ◌+◌, ◌≤◌, ◌<◌, true, false, Option, Some, ◌≡◌}
 use mathlib.Core.List.{List, [], ◌∷◌}
 use Rattle.std.proofs.Math.Path.{refl, ap}
 use Rattle.std.proofs.Common.{sym, zero-add, lt-ltb, le-ltb}
@@ -7,8 +7,6 @@ use native.Mathlib.Omega.{arith}
 use Rattle.std.proofs.Math.Nat.{add-zero, sub-zero}
 use Rattle.gate.specs.declared.Entry.{Entry}
 use Rattle.gate.specs.declared.Found.{Found}
-use Rattle.gate.specs.declared.InForce.{InForce}
-use Rattle.gate.specs.declared.InForce.TheVariants.{Here}
 use Rattle.gate.specs.declared.Gate.{Gate}
 use Rattle.gate.specs.declared.Stepped.{Stepped}
 use Rattle.gate.specs.Meaning.{no_limit, spent_of, left_of, in_force_of, gate_step_of, Frame, Ordered, next, in_interval, octets_passed, passed_in}
@@ -22,14 +20,14 @@ pub left_whole : (g : Gate) (f : Found) → (g.since ≡ f.start → ⊥) → le
 left_whole g f h = rw (spent_other g f.start h, sub-zero)
 
 -- every step leaves the base time, and counts for no interval that begins after the frame
-way_base : (g : Gate) (h : InForce) (n : ℕ) (r : Stepped) → Way g h n r → r.gate.base ≡ g.base
+way_base : (g : Gate) (h : Option Found) (n : ℕ) (r : Stepped) → Way g h n r → r.gate.base ≡ g.base
 way_base g h n r blocked = refl
 way_base g h n r closed = refl
 way_base g h n r exceeded = refl
 way_base g h n r (free p u) = refl
 way_base g h n r (counted f e l) = refl
 
-way_since : (g : Gate) (h : InForce) (n t : ℕ) (r : Stepped) → ((f : Found) → h ≡ Here f → f.start ≤ t) → g.since ≤ t → Way g h n r → r.gate.since ≤ t
+way_since : (g : Gate) (h : Option Found) (n t : ℕ) (r : Stepped) → ((f : Found) → h ≡ Some f → f.start ≤ t) → g.since ≤ t → Way g h n r → r.gate.since ≤ t
 way_since g h n t r begun old blocked = old
 way_since g h n t r begun old closed = old
 way_since g h n t r begun old exceeded = old
@@ -38,7 +36,7 @@ way_since g h n t r begun old (counted f e l) = begun f e
 
 module _ (f : Found) (limited : f.entry.maximum ≡ no_limit → ⊥) where
   -- a frame in f's interval leaves what was left, less what passed
-  way_left : (g : Gate) (n : ℕ) (r : Stepped) → Way g (Here f) n r → left_of r.gate f + octets_passed r.outcome n ≡ left_of g f
+  way_left : (g : Gate) (n : ℕ) (r : Stepped) → Way g (Some f) n r → left_of r.gate f + octets_passed r.outcome n ≡ left_of g f
   unfolding spent_of
   way_left g n r blocked = add-zero _
   way_left g n r closed = add-zero _
@@ -53,7 +51,7 @@ module _ (f : Found) (limited : f.entry.maximum ≡ no_limit → ⊥) where
       omega arith
 
   module _ (es : List Entry) where
-    pub step_left : (g : Gate) (t n : ℕ) → in_force_of es g.base t ≡ Here f → left_of (gate_step_of g es t n).gate f + octets_passed (gate_step_of g es t n).outcome n ≡ left_of g f
+    pub step_left : (g : Gate) (t n : ℕ) → in_force_of es g.base t ≡ Some f → left_of (gate_step_of g es t n).gate f + octets_passed (gate_step_of g es t n).outcome n ≡ left_of g f
     step_left g t n e = way_left g n _ (rw e at (step_way g es t n))
 
     -- ---- runs
@@ -75,14 +73,14 @@ module _ (f : Found) (limited : f.entry.maximum ≡ no_limit → ⊥) where
         rw (w, zero-add) (passed_past (gate_step_of g es a.time a.octets).gate a.time more (omega arith) o)
 
     -- f being in force from its start on, no more octets pass in its interval than are left in it
-    pub passed_at_most_left : (g : Gate) (u : ℕ) (frames : List Frame) → in_force_of es g.base f.start ≡ Here f → g.since ≤ u → Ordered u frames → passed_in f g es frames ≤ left_of g f
+    pub passed_at_most_left : (g : Gate) (u : ℕ) (frames : List Frame) → in_force_of es g.base f.start ≡ Some f → g.since ≤ u → Ordered u frames → passed_in f g es frames ≤ left_of g f
     unfolding passed_in
     passed_at_most_left g u [] is old o = omega arith
     passed_at_most_left g u (a ∷ more) is old (next l o) =
         let t = a.time in
         let g' = (gate_step_of g es t a.octets).gate in
         let way = step_way g es t a.octets in
-        let is' : in_force_of es g'.base f.start ≡ Here f = rw (way_base g _ _ _ way) is in
+        let is' : in_force_of es g'.base f.start ≡ Some f = rw (way_base g _ _ _ way) is in
         let old' : g'.since ≤ t = way_since g _ _ t _ (λ f' e. in_force_begun es g.base t f' e) (omega arith) way in
         let rest = passed_at_most_left g' t more is' old' o in
         lt_or t f.start
@@ -92,6 +90,6 @@ module _ (f : Found) (limited : f.entry.maximum ≡ no_limit → ⊥) where
         (λ past. rw (within_past t past) (omega (arith, passed_past g' t more past o))))
 
 -- and so never more than its maximum
-pub passed_at_most : (es : List Entry) (g : Gate) (f : Found) (u : ℕ) (frames : List Frame) → in_force_of es g.base f.start ≡ Here f → (f.entry.maximum ≡ no_limit → ⊥) → g.since ≤ u → Ordered u frames
+pub passed_at_most : (es : List Entry) (g : Gate) (f : Found) (u : ℕ) (frames : List Frame) → in_force_of es g.base f.start ≡ Some f → (f.entry.maximum ≡ no_limit → ⊥) → g.since ≤ u → Ordered u frames
     → passed_in f g es frames ≤ f.entry.maximum
 passed_at_most es g f u frames is limited old o = omega (arith, passed_at_most_left f limited es g u frames is old o)

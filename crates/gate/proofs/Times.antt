@@ -1,10 +1,9 @@
 -- What `in_force_of` means: from the base time on exactly one entry is in force, the one in whose interval the time falls.
-use Rattle.std.specs.Prelude.{ℕ, zero, suc, ◌+◌, ◌-◌, ◌*◌, ◌/◌, ◌%◌, ◌≤◌, ◌<◌, Bool, true, false, List, [], ◌∷◌, ◌≡◌, refl, ltb, length, get_or}
+use Rattle.std.specs.Prelude.{ℕ, zero, suc, ◌+◌, ◌-◌, ◌*◌, ◌/◌, ◌%◌, ◌≤◌, ◌<◌, Bool, true, false, Some, None, List, [], ◌∷◌, ◌≡◌, refl, ltb, length, get_or}
 use Rattle.std.proofs.Common.{sym, ap, ◌∙◌, arith, zero-add, add-zero, mod-lt, mod-eq_of_lt, div-add-mod', lt-ltb, le-ltb, ltb-true, ltb-false}
 use Rattle.std.proofs.Math.Nat.{mul-add-mod_self_right}
 use Rattle.gate.specs.declared.Entry.{Entry}
 use Rattle.gate.specs.declared.Found.{Found}
-use Rattle.gate.specs.declared.InForce.TheVariants.{Nothing, Here}
 use Rattle.gate.specs.Meaning.{entry_at, entries_from, entries_in, entries_of, cycle_of, found_of, in_force_of}
 use Rattle.gate.proofs.Walk.{in_force_early, in_force_later}
 use Rattle.gate.proofs.Cases.{here_same}
@@ -48,10 +47,10 @@ inside (e ∷ es) zero h = omega arith
 inside (e ∷ es) (suc k) h = omega (arith, inside es k (omega arith))
 
 -- some interval has every x below the cycle
-abbrev Some : List Entry → ℕ → Type 0
-Some es x = (k : ℕ) × Within es x k
+abbrev Somewhere : List Entry → ℕ → Type 0
+Somewhere es x = (k : ℕ) × Within es x k
 
-some_by : (e : Entry) (es : List Entry) (x : ℕ) → x < cycle_of (e ∷ es) → ((x' : ℕ) → x' < cycle_of es → Some es x') → (b : Bool) → ltb x e.interval ≡ b → Some (e ∷ es) x
+some_by : (e : Entry) (es : List Entry) (x : ℕ) → x < cycle_of (e ∷ es) → ((x' : ℕ) → x' < cycle_of es → Somewhere es x') → (b : Bool) → ltb x e.interval ≡ b → Somewhere (e ∷ es) x
 unfolding cycle_of before_of
 some_by e es x h more true q = (0, record { there = omega arith; begun = omega arith; lasts = omega (arith, ltb-true x e.interval q) })
 some_by e es x h more false q =
@@ -59,14 +58,14 @@ some_by e es x h more false q =
     let w = more (x - e.interval) (omega arith) in
     (suc w.0, record { there = omega (arith, w.1.there); begun = omega (arith, w.1.begun); lasts = omega (arith, w.1.begun, w.1.lasts) })
 
-some_within : (es : List Entry) (x : ℕ) → x < cycle_of es → Some es x
+some_within : (es : List Entry) (x : ℕ) → x < cycle_of es → Somewhere es x
 unfolding cycle_of
 some_within [] x h = absurd (omega arith)
 some_within (e ∷ es) x h = some_by e es x h (λ x' h'. some_within es x' h') (ltb x e.interval) refl
 
 -- and the search finds it
 found_at : (t : ℕ) (es : List Entry) (i k y : ℕ) → k < length es → y < (entry_no es k).interval
-    → found_of t es i (before_of es k + y) ≡ Here (record { index = i + k; start = t - y; entry = entry_no es k })
+    → found_of t es i (before_of es k + y) ≡ Some (record { index = i + k; start = t - y; entry = entry_no es k })
 unfolding found_of before_of
 found_at t [] i k y h l = absurd (omega arith)
 found_at t (e ∷ es) i zero y h l = rw (zero-add, add-zero, lt-ltb y e.interval l)
@@ -74,10 +73,10 @@ found_at t (e ∷ es) i (suc k) y h l =
     let far : ltb (e.interval + before_of es k + y) e.interval ≡ false = le-ltb (e.interval + before_of es k + y) e.interval (omega arith) in
     let left : e.interval + before_of es k + y - e.interval ≡ before_of es k + y = omega arith in
     rw (far, left, found_at t es (suc i) k y (omega arith) l)
-    (ap (λ (n : ℕ). Here (record { index = n; start = t - y; entry = entry_no es k })) (omega arith))
+    (ap (λ (n : ℕ). Some (record { index = n; start = t - y; entry = entry_no es k })) (omega arith))
 
 -- where no interval has a length, nothing is found
-found_zero : (t : ℕ) (es : List Entry) (i x : ℕ) → cycle_of es ≡ 0 → found_of t es i x ≡ Nothing
+found_zero : (t : ℕ) (es : List Entry) (i x : ℕ) → cycle_of es ≡ 0 → found_of t es i x ≡ None
 unfolding found_of cycle_of
 found_zero t [] i x h = refl
 found_zero t (e ∷ es) i x h = rw (le-ltb x e.interval (omega arith)) (found_zero t es (suc i) (x - e.interval) (omega arith))
@@ -100,7 +99,7 @@ module _ (es : List Entry) (base t : ℕ) where
       ((t - base) / c, w.0, record { there = w.1.there; begun = omega (arith, d, w.1.begun); lasts = omega (arith, d, w.1.lasts) })
 
   -- and it is the one that is given, with the start of its interval
-  pub holds_in_force : (q k : ℕ) → Holds es base t q k → in_force_of es base t ≡ Here (record { index = k; start = begins_of es base q k; entry = entry_no es k })
+  pub holds_in_force : (q k : ℕ) → Holds es base t q k → in_force_of es base t ≡ Some (record { index = k; start = begins_of es base q k; entry = entry_no es k })
   holds_in_force q k h =
       let c = cycle_of es in
       let y = t - begins_of es base q k in
@@ -109,7 +108,7 @@ module _ (es : List Entry) (base t : ℕ) where
       let small : before_of es k + y < c = omega (arith, i, h.begun, h.lasts) in
       let off : (t - base) % c ≡ before_of es k + y = rw split (mul-add-mod_self_right q c (before_of es k + y) ∙ mod-eq_of_lt small) in
       in_force_later es base t (omega (arith, h.begun)) ∙ rw (off, found_at t es 0 k y h.there (omega (arith, h.begun, h.lasts)), zero-add)
-      (ap (λ (n : ℕ). Here (record { index = k; start = n; entry = entry_no es k })) (omega (arith, h.begun)))
+      (ap (λ (n : ℕ). Some (record { index = k; start = n; entry = entry_no es k })) (omega (arith, h.begun)))
 
   -- there is no other
   pub holds_once : (q k q' k' : ℕ) → Holds es base t q k → Holds es base t q' k' → (k ≡ k') × (begins_of es base q k ≡ begins_of es base q' k')
@@ -119,26 +118,26 @@ module _ (es : List Entry) (base t : ℕ) where
 
   -- exactly one entry, in one interval of one cycle, is in force at each time from the base time on
   pub in_force_one : base ≤ t → 0 < cycle_of es
-      → (f : Found) × (in_force_of es base t ≡ Here f) × ((q : ℕ) × Holds es base t q f.index) × ((q k : ℕ) → Holds es base t q k → (k ≡ f.index) × (begins_of es base q k ≡ f.start))
+      → (f : Found) × (in_force_of es base t ≡ Some f) × ((q : ℕ) × Holds es base t q f.index) × ((q k : ℕ) → Holds es base t q k → (k ≡ f.index) × (begins_of es base q k ≡ f.start))
   in_force_one b p =
       let w = holds_some b p in
       (record { index = w.1; start = begins_of es base w.0 w.1; entry = entry_no es w.1 }, holds_in_force w.0 w.1 w.2, (w.0, w.2), λ q k h. holds_once q k w.0 w.1 h w.2)
 
   -- nothing is ever in force where no interval has a length
-  pub in_force_empty : cycle_of es ≡ 0 → in_force_of es base t ≡ Nothing
+  pub in_force_empty : cycle_of es ≡ 0 → in_force_of es base t ≡ None
   in_force_empty h = lt_or t base (λ l. in_force_early es base t l) (λ l. in_force_later es base t l ∙ found_zero t es 0 _ h)
 
   -- what is given holds
-  pub in_force_holds : (f : Found) → in_force_of es base t ≡ Here f → (q : ℕ) × (k : ℕ) × Holds es base t q k × (f ≡ record { index = k; start = begins_of es base q k; entry = entry_no es k })
+  pub in_force_holds : (f : Found) → in_force_of es base t ≡ Some f → (q : ℕ) × (k : ℕ) × Holds es base t q k × (f ≡ record { index = k; start = begins_of es base q k; entry = entry_no es k })
   in_force_holds f e =
-      let never : in_force_of es base t ≡ Nothing → ⊥ = λ n. let z : ◌≡◌ {A = ℕ} 0 1 = cc in omega arith in
+      let never : in_force_of es base t ≡ None → ⊥ = λ n. let z : ◌≡◌ {A = ℕ} 0 1 = cc in omega arith in
       let late : base ≤ t = lt_or t base (λ l. absurd (never (in_force_early es base t l))) (λ l. l) in
       let long : 0 < cycle_of es = lt_or 0 (cycle_of es) (λ l. l) (λ l. absurd (never (in_force_empty (omega arith)))) in
       let w = holds_some late long in
       (w.0, w.1, w.2, here_same _ _ (sym e ∙ holds_in_force w.0 w.1 w.2))
 
 -- the interval has the time, and the answer is the same from its first nanosecond to its last
-module _ (es : List Entry) (base t : ℕ) (f : Found) (e : in_force_of es base t ≡ Here f) where
+module _ (es : List Entry) (base t : ℕ) (f : Found) (e : in_force_of es base t ≡ Some f) where
   pub in_force_begun : f.start ≤ t
   in_force_begun = let w = in_force_holds es base t f e in rw w.3 w.2.begun
 
@@ -148,19 +147,19 @@ module _ (es : List Entry) (base t : ℕ) (f : Found) (e : in_force_of es base t
   pub in_force_based : base ≤ f.start
   in_force_based = let w = in_force_holds es base t f e in rw w.3 (omega arith)
 
-  pub in_force_constant : (u : ℕ) → f.start ≤ u → u < f.start + f.entry.interval → in_force_of es base u ≡ Here f
+  pub in_force_constant : (u : ℕ) → f.start ≤ u → u < f.start + f.entry.interval → in_force_of es base u ≡ Some f
   in_force_constant u b l =
       let w = in_force_holds es base t f e in
-      holds_in_force es base u w.0 w.1 (record { there = w.2.there; begun = rw w.3 at b; lasts = rw w.3 at l }) ∙ ap Here (sym w.3)
+      holds_in_force es base u w.0 w.1 (record { there = w.2.there; begun = rw w.3 at b; lasts = rw w.3 at l }) ∙ ap Some (sym w.3)
 
 -- two intervals that share a nanosecond are the same
-intervals_meet : (es : List Entry) (base t t' : ℕ) (f f' : Found) → in_force_of es base t ≡ Here f → in_force_of es base t' ≡ Here f'
+intervals_meet : (es : List Entry) (base t t' : ℕ) (f f' : Found) → in_force_of es base t ≡ Some f → in_force_of es base t' ≡ Some f'
     → (u : ℕ) → f.start ≤ u → u < f.start + f.entry.interval → f'.start ≤ u → u < f'.start + f'.entry.interval → f ≡ f'
 intervals_meet es base t t' f f' e e' u b l b' l' = here_same f f' (sym (in_force_constant es base t f e u b l) ∙ in_force_constant es base t' f' e' u b' l')
 
 -- at an interval's last boundary the next one begins: what is in force changes there and, being constant within, only there
-pub in_force_next : (es : List Entry) (base t : ℕ) (f : Found) → in_force_of es base t ≡ Here f
-    → (f' : Found) × (in_force_of es base (f.start + f.entry.interval) ≡ Here f') × (f'.start ≡ f.start + f.entry.interval)
+pub in_force_next : (es : List Entry) (base t : ℕ) (f : Found) → in_force_of es base t ≡ Some f
+    → (f' : Found) × (in_force_of es base (f.start + f.entry.interval) ≡ Some f') × (f'.start ≡ f.start + f.entry.interval)
 in_force_next es base t f e =
     let end = f.start + f.entry.interval in
     let w = in_force_holds es base t f e in
@@ -192,7 +191,7 @@ entries_no s i (suc n) zero h = ap (entry_at s) (sym (add-zero i))
 entries_no s i (suc n) (suc k) h = entries_no s (suc i) n k (omega arith) ∙ ap (entry_at s) (omega arith)
 
 -- the entry in force is a whole one of the list, and what its octets say
-module _ (s : List ℕ) (base t : ℕ) (f : Found) (e : in_force_of (entries_of s) base t ≡ Here f) where
+module _ (s : List ℕ) (base t : ℕ) (f : Found) (e : in_force_of (entries_of s) base t ≡ Some f) where
   pub in_force_whole : f.index * entry_octets + entry_octets ≤ length s
   in_force_whole =
       let w = in_force_holds (entries_of s) base t f e in

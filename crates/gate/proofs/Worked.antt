@@ -1,8 +1,7 @@
 -- The worked figures of a gate, computed (01, Worked figures): base 5000; open 1000 ns with 600 octets, closed 1000 ns; record state open, no blocks.
-use Rattle.std.specs.Prelude.{ℕ, true, false, cond, List, [], ◌∷◌, ◌++◌, ◌≡◌, refl, eqb}
+use Rattle.std.specs.Prelude.{ℕ, true, false, cond, Option, Some, None, List, [], ◌∷◌, ◌++◌, ◌≡◌, refl, eqb}
 use Rattle.gate.specs.declared.Entry.{Entry}
-use Rattle.gate.specs.declared.InForce.{InForce}
-use Rattle.gate.specs.declared.InForce.TheVariants.{Nothing, Here}
+use Rattle.gate.specs.declared.Found.{Found}
 use Rattle.gate.specs.declared.Gate.{Gate}
 use Rattle.gate.specs.Meaning.{entries_from, entries_of, cycle_of, found_of, in_force_of, gate_number_of, no_limit, spent_of, left_of, limited_of, passed_of, gate_step_of, Frame, gate_after}
 
@@ -14,9 +13,9 @@ pub record Row : Type 0 where
 abbrev pub row : ℕ → ℕ → Row
 row number left = record { number = number; left = left }
 
-abbrev pub left_in : Gate → InForce → ℕ
-left_in g Nothing = no_limit
-left_in g (Here f) = cond (eqb f.entry.maximum no_limit) no_limit (left_of g f)
+abbrev pub left_in : Gate → Option Found → ℕ
+left_in g None = no_limit
+left_in g (Some f) = cond (eqb f.entry.maximum no_limit) no_limit (left_of g f)
 
 unfoldable pub figures_of : Gate → List Entry → List Frame → List Row
 figures_of g es [] = []

@@ -1,10 +1,8 @@
 -- What a gate and its control list mean, in the words of document 01: the octets of kind 4, "Gate lists", and step 3 of "A frame's path".
 -- Times and intervals are nanoseconds, lengths and maxima octets of MSDU.
-use Rattle.std.specs.Prelude.{ℕ, zero, suc, ◌+◌, ◌-◌, ◌*◌, ◌/◌, ◌%◌, ◌≤◌, min, Bool, not, cond, ◌||◌, ◌&&◌, List, [], ◌∷◌, ltb, leb, eqb, length, get_or}
+use Rattle.std.specs.Prelude.{ℕ, zero, suc, ◌+◌, ◌-◌, ◌*◌, ◌/◌, ◌%◌, ◌≤◌, min, Bool, not, cond, ◌||◌, ◌&&◌, Option, Some, None, List, [], ◌∷◌, ltb, leb, eqb, length, get_or}
 use Rattle.gate.specs.declared.Entry.{Entry}
 use Rattle.gate.specs.declared.Found.{Found}
-use Rattle.gate.specs.declared.InForce.{InForce}
-use Rattle.gate.specs.declared.InForce.TheVariants.{Nothing, Here}
 use Rattle.gate.specs.declared.Gate.{Gate}
 use Rattle.gate.specs.declared.Stepped.{Stepped}
 use Rattle.gate.specs.declared.Outcome.{Outcome}
@@ -47,14 +45,14 @@ cycle_of (e ∷ es) = e.interval + cycle_of es
 
 -- The entry in whose interval x falls, x being counted from the start of the first interval of es, whose number is i.
 -- "An interval owns its first nanosecond, not its last boundary": x below the interval. It began x before the time t.
-unfoldable pub found_of : ℕ → List Entry → ℕ → ℕ → InForce
-found_of t [] i x = Nothing
-found_of t (e ∷ es) i x = cond (ltb x e.interval) (Here (record { index = i; start = t - x; entry = e })) (found_of t es (suc i) (x - e.interval))
+unfoldable pub found_of : ℕ → List Entry → ℕ → ℕ → Option Found
+found_of t [] i x = None
+found_of t (e ∷ es) i x = cond (ltb x e.interval) (Some (record { index = i; start = t - x; entry = e })) (found_of t es (suc i) (x - e.interval))
 
 -- "With no entries, or before base time" nothing is in force. "From base time the entries repeat": whole cycles are taken off.
 -- (Where the cycle is 0 no entry has a length, and none is found at any x.)
-unfoldable pub in_force_of : List Entry → ℕ → ℕ → InForce
-in_force_of es base t = cond (ltb t base) Nothing (found_of t es 0 ((t - base) % cycle_of es))
+unfoldable pub in_force_of : List Entry → ℕ → ℕ → Option Found
+in_force_of es base t = cond (ltb t base) None (found_of t es 0 ((t - base) % cycle_of es))
 
 -- ---- 01, A frame's path, step 3
 
@@ -118,9 +116,9 @@ limited_of g f n =
     (gate_answer (with_octets g) TooManyOctets))
 
 -- by the state in force: the record's "without octet limit", or the entry's
-unfoldable pub passed_of : Gate → InForce → ℕ → Stepped
-passed_of g Nothing n = cond g.opened (gate_answer g (Passed g.ipv)) (closed_of g)
-passed_of g (Here f) n = cond f.entry.opened (limited_of g f n) (closed_of g)
+unfoldable pub passed_of : Gate → Option Found → ℕ → Stepped
+passed_of g None n = cond g.opened (gate_answer g (Passed g.ipv)) (closed_of g)
+passed_of g (Some f) n = cond f.entry.opened (limited_of g f n) (closed_of g)
 
 -- a frame of n octets at t: "Invalid-receive or octets flag standing: drop 3"
 unfoldable pub gate_step_of : Gate → List Entry → ℕ → ℕ → Stepped

@@ -4,9 +4,10 @@
 // (01, kind 4: eleven for an entry, its gate's number first); only its first eight whole entries count.
 #![tactic(auto)]
 
-ghost use Rattle.std.specs.Prelude.{◌≡◌, ◌+◌, ◌-◌, ◌*◌, ◌%◌, ◌<◌, ◌≤◌, length};
-ghost use Rattle.sizes.specs.Meaning.{entry_octets};
-ghost use Rattle.gate.specs.Meaning.{word_of, entry_at, entries_of, cycle_of, found_of, in_force_of, spent_of, closed_of, limited_of, passed_of, gate_step_of};
+ghost use Rattle.std.specs.Prelude.{◌≡◌, ◌^◌, ◌<◌, ◌≤◌, length, map};
+ghost use Rattle.sizes.specs.Meaning.{entry_count};
+ghost use Rattle.gate.specs.Entries.{entry_in};
+ghost use Rattle.gate.specs.Meaning.{word_of, entries_of, cycle_of, found_of, in_force_of, gate_answer, closed_of, limited_of, passed_of, gate_step_of};
 
 // A gate as its record sets it up (01, kind 3), with its flags and its count. All zeros but for the record's fields is a
 // fresh gate.
@@ -36,18 +37,26 @@ pub struct Entry {
     pub maximum: u64,
 }
 
+// The octets are those of the entry's record.
+impl From<&[u8; sizes::ENTRY]> for Entry {
+    ghost from_gives = { λ octets r. r ≡ entry_in octets.now };
+
+    fn from(octets: &[u8; sizes::ENTRY]) -> Entry {
+        Entry {
+            opened: octets[1] != 0,
+            ipv: octets[2],
+            interval: interval(octets),
+            maximum: word([octets[7], octets[8], octets[9], octets[10]]),
+        }
+    }
+}
+
 // An entry in force: its place in the list, and when the interval in which it is in force began.
 #[derive(Clone, Copy)]
 pub struct Found {
     pub index: usize,
     pub start: u64,
     pub entry: Entry,
-}
-
-#[derive(Clone, Copy)]
-pub enum InForce {
-    Nothing,
-    Here(Found),
 }
 
 // What becomes of a frame. `gate_number_of` in specs/ has document 01's number for each case.
@@ -66,209 +75,134 @@ pub struct Stepped {
     pub outcome: Outcome,
 }
 
+impl Stepped {
+    fn new(gate: Gate, outcome: Outcome) -> Stepped
+        ensures { result ≡ gate_answer gate outcome }
+    {
+        Stepped { gate, outcome }
+    }
+}
+
 // A frame of `msdu` octets that reaches the gate at `time`: what it gets, and the gate after it.
 // Ruled out: a frame of just the octets left is dropped; a closed gate also sets the octets flag.
-#[tactic(auto, using(crate::proofs::Cases::step_blocked, crate::proofs::Cases::step_unblocked))]
+#[tactic(auto, unfolding(crate::specs::Meaning::gate_step_of))]
 pub fn step(gate: Gate, list: &[u8], time: u64, msdu: u64) -> Stepped
     ensures { result ≡ gate_step_of gate (entries_of list.now) time msdu }
 {
     if gate.invalid_receive_flag | gate.octets_flag {
-        Stepped {
-            gate,
-            outcome: Outcome::Blocked,
-        }
-    } else {
-        let base = gate.base;
-        let here = in_force(list, base, time);
-        pass(gate, here, msdu)
+        return Stepped::new(gate, Outcome::Blocked);
     }
+    pass(gate, in_force(list, gate.base, time), msdu)
 }
 
-// The entry in force at `time`.
+// The entry in force at `time`, if any.
 // Ruled out: at an interval's end its entry is still in force; at the base time none is.
-#[tactic(auto, using(crate::proofs::Walk::in_force_early, crate::proofs::Walk::in_force_later))]
-pub fn in_force(list: &[u8], base: u64, time: u64) -> InForce
+#[tactic(auto, unfolding(crate::specs::Meaning::in_force_of))]
+pub fn in_force(list: &[u8], base: u64, time: u64) -> Option<Found>
     ensures { result ≡ in_force_of (entries_of list.now) base time }
 {
     if time < base {
-        return InForce::Nothing;
+        return None;
     }
-    let cycle = cycle(list);
-    let offset = rest(time - base, cycle);
-    find(list, time, offset)
+    let entries = entries(list);
+    let since = time - base;
+    let cycle = cycle(entries);
+    // A cycle of 0 takes nothing off.
+    let offset = if cycle == 0 { since } else { since % cycle };
+    find(entries, time, offset)
 }
 
 // A gate with no flag, by what is in force.
-#[tactic(auto, using(crate::proofs::Cases::passed_record_open, crate::proofs::Cases::passed_record_closed, crate::proofs::Cases::passed_entry_open, crate::proofs::Cases::passed_entry_closed))]
-fn pass(gate: Gate, here: InForce, msdu: u64) -> Stepped
+#[tactic(auto, unfolding(crate::specs::Meaning::passed_of))]
+fn pass(gate: Gate, here: Option<Found>, msdu: u64) -> Stepped
     ensures { result ≡ passed_of gate here msdu }
 {
     match here {
-        InForce::Nothing => {
-            if gate.opened {
-                Stepped {
-                    gate,
-                    outcome: Outcome::Passed(gate.ipv),
-                }
-            } else {
-                close(gate)
-            }
-        }
-        InForce::Here(found) => {
-            let entry = found.entry;
-            if entry.opened {
-                limit(gate, found, msdu)
-            } else {
-                close(gate)
-            }
-        }
+        None if gate.opened => Stepped::new(gate, Outcome::Passed(gate.ipv)),
+        Some(found) if found.entry.opened => limit(gate, found, msdu),
+        _ => close(gate),
     }
 }
 
-fn close(gate: Gate) -> Stepped
+fn close(mut gate: Gate) -> Stepped
     ensures { result ≡ closed_of gate }
 {
-    let mut next = gate;
-    next.invalid_receive_flag = gate.invalid_receive_flag | gate.invalid_receive_block;
-    Stepped {
-        gate: next,
-        outcome: Outcome::Closed,
-    }
+    gate.invalid_receive_flag |= gate.invalid_receive_block;
+    Stepped::new(gate, Outcome::Closed)
 }
 
 // An open entry, by the octets left.
-#[tactic(auto, using(crate::proofs::Cases::limited_none, crate::proofs::Cases::limited_enough, crate::proofs::Cases::limited_exceeded))]
-fn limit(gate: Gate, found: Found, msdu: u64) -> Stepped
+#[tactic(auto, unfolding(crate::specs::Meaning::limited_of, crate::specs::Meaning::spent_of))]
+fn limit(mut gate: Gate, found: Found, msdu: u64) -> Stepped
     ensures { result ≡ limited_of gate found msdu }
 {
-    let entry = found.entry;
-    let start = found.start;
-    let ipv = entry.ipv;
-    let maximum = entry.maximum;
-    if maximum == 4_294_967_295 {
-        return Stepped {
-            gate,
-            outcome: Outcome::Passed(ipv),
-        };
+    let Found { start, entry, .. } = found;
+    let passed = Outcome::Passed(entry.ipv);
+    if entry.maximum == u64::from(u32::MAX) {
+        return Stepped::new(gate, passed);
     }
-    let spent = spent_at(gate, start);
-    let left = minus(maximum, spent);
-    let mut next = gate;
-    if msdu <= left {
-        next.since = start;
-        next.spent = spent + msdu;
-        Stepped {
-            gate: next,
-            outcome: Outcome::Passed(ipv),
-        }
-    } else {
-        next.octets_flag = gate.octets_flag | gate.octets_block;
-        Stepped {
-            gate: next,
-            outcome: Outcome::TooManyOctets,
-        }
+    let spent = if gate.since == start { gate.spent } else { 0 };
+    // A count above the maximum, which no frame has written, leaves nothing.
+    let left = entry.maximum.saturating_sub(spent);
+    if msdu > left {
+        gate.octets_flag |= gate.octets_block;
+        return Stepped::new(gate, Outcome::TooManyOctets);
     }
+    gate.since = start;
+    gate.spent = spent + msdu;
+    Stepped::new(gate, passed)
 }
 
-#[tactic(auto, using(crate::proofs::Cases::spent_same, crate::proofs::Cases::spent_other))]
-fn spent_at(gate: Gate, start: u64) -> u64
-    ensures { result ≡ spent_of gate start }
+// The whole entries of a list, of which the first eight count, each as its octets.
+#[tactic(auto, using(crate::proofs::Walk::entries_apart))]
+fn entries(list: &[u8]) -> &[[u8; sizes::ENTRY]]
+    ensures value { map entry_in result.now ≡ entries_of list.now }
+    ensures bound { length result.now ≤ entry_count }
 {
-    if gate.since == start { gate.spent } else { 0 }
+    let (whole, _) = list.as_chunks();
+    &whole[..whole.len().min(sizes::ENTRIES)]
 }
 
-// a - b, or 0: a count above the maximum, which no frame has written, leaves nothing.
-fn minus(a: u64, b: u64) -> u64
-    ensures { result ≡ a - b }
+#[tactic(auto, using(crate::proofs::Walk::cycle_sum))]
+fn cycle(entries: &[[u8; sizes::ENTRY]]) -> u64
+    requires { length entries.now ≤ entry_count }
+    ensures { result ≡ cycle_of (map entry_in entries.now) }
 {
-    if a < b { 0 } else { a - b }
-}
-
-fn cycle(list: &[u8]) -> u64
-    ensures { result ≡ cycle_of (entries_of list.now) }
-{
-    let mut sum: u64 = 0;
-    let mut i: usize = 0;
-    while i < sizes::ENTRIES {
-        if list.len() < i * sizes::ENTRY + sizes::ENTRY {
-            return sum;
-        }
-        sum += interval_at(list, i);
-        i += 1;
-    }
-    sum
-}
-
-// What is left of a duration after whole cycles. A cycle of 0 takes nothing off.
-fn rest(duration: u64, cycle: u64) -> u64
-    ensures { result ≡ duration % cycle }
-{
-    if cycle == 0 {
-        duration
-    } else {
-        duration % cycle
-    }
+    entries.iter().map(interval).sum()
 }
 
 // The entry in whose interval `offset` falls, counted from the start of a cycle.
 #[tactic(auto, using(crate::proofs::Walk::found_here, crate::proofs::Walk::found_later, crate::proofs::Walk::found_none))]
-fn find(list: &[u8], time: u64, offset: u64) -> InForce
+fn find(entries: &[[u8; sizes::ENTRY]], time: u64, offset: u64) -> Option<Found>
     requires { offset ≤ time }
-    ensures { result ≡ found_of time (entries_of list.now) 0 offset }
+    ensures { result ≡ found_of time (map entry_in entries.now) 0 offset }
 {
     let mut x = offset;
-    let mut i: usize = 0;
-    while i < sizes::ENTRIES {
-        if list.len() < i * sizes::ENTRY + sizes::ENTRY {
-            return InForce::Nothing;
-        }
-        let interval = interval_at(list, i);
+    for (index, octets) in entries.iter().enumerate() {
+        let interval = interval(octets);
         if x < interval {
-            return InForce::Here(Found {
-                index: i,
+            return Some(Found {
+                index,
                 start: time - x,
-                entry: entry_at(list, i),
+                entry: Entry::from(octets),
             });
         }
         x -= interval;
-        i += 1;
     }
-    InForce::Nothing
+    None
 }
 
-fn entry_at(list: &[u8], i: usize) -> Entry
-    requires { i * entry_octets + entry_octets ≤ length list.now }
-    ensures { result ≡ entry_at list.now i }
+// All that the walk over a list reads of an entry.
+fn interval(octets: &[u8; sizes::ENTRY]) -> u64
+    ensures value { result ≡ (entry_in octets.now).interval }
+    ensures bound { result < 2 ^ 32 }
 {
-    let at = i * sizes::ENTRY;
-    Entry {
-        opened: list[at + 1] != 0,
-        ipv: list[at + 2],
-        interval: word(list, at + 3),
-        maximum: word(list, at + 7),
-    }
+    word([octets[3], octets[4], octets[5], octets[6]])
 }
 
-fn interval_at(list: &[u8], i: usize) -> u64
-    requires { i * entry_octets + entry_octets ≤ length list.now }
-    ensures { (result ≡ (entry_at list.now i).interval) × (result < 4_294_967_296) }
+fn word(octets: [u8; 4]) -> u64
+    ensures value { result ≡ word_of octets 0 }
+    ensures bound { result < 2 ^ 32 }
 {
-    let at = i * sizes::ENTRY;
-    word(list, at + 3)
-}
-
-fn word(list: &[u8], at: usize) -> u64
-    requires { at + 4 ≤ length list.now }
-    ensures { (result ≡ word_of list.now at) × (result < 4_294_967_296) }
-{
-    wide(list[at]) * 16_777_216
-        + wide(list[at + 1]) * 65_536
-        + wide(list[at + 2]) * 256
-        + wide(list[at + 3])
-}
-
-fn wide(octet: u8) -> u64
-    ensures { (result ≡ octet) × (result < 256) }
-{
-    octet as u64
+    u64::from(u32::from_be_bytes(octets))
 }

@@ -1,4 +1,3 @@
-pub mod Fill
 pub mod Cases
 pub mod Laws
 pub mod Worked

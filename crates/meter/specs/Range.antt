@@ -28,14 +28,6 @@ pub record Ready (m : Meter) (time : ℕ) : Type 0 where
   pub sound : Sound m
   pub later : m.last ≤ time
 
--- the test of the bursts alone, by which the products of the others are safe
-pub record Bursts (cbs ebs : ℕ) : Type 0 where
-  pub cbs_high : cbs ≤ 1_000_000
-  pub ebs_high : ebs ≤ 1_000_000
-
-pub bursts : (cbs ebs : ℕ) → (leb cbs 1_000_000 && leb ebs 1_000_000) ≡ true → Bursts cbs ebs
-bursts cbs ebs e = record { cbs_high = leb-true cbs 1_000_000 (search conjuncts); ebs_high = leb-true ebs 1_000_000 (search conjuncts) }
-
 pub in_range : (m : Meter) (time : ℕ) (msdu : Octets) → meter_in_range m time msdu ≡ true → InRange m time msdu
 unfolding meter_in_range
 in_range m time msdu e =

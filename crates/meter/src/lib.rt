@@ -1,8 +1,8 @@
 // A flow meter: two token buckets that colour a frame green, yellow or red (01, Meters: MEF 10.3 for one flow).
 #![tactic(auto)]
 
-ghost use Rattle.std.specs.Prelude.{◌≡◌, ◌-◌, min};
-ghost use Rattle.meter.specs.Meaning.{fresh_meter_of, colour_of, filled_of, painted_of, meter_in_range, spilt, yellow_outcome};
+ghost use Rattle.std.specs.Prelude.{◌≡◌};
+ghost use Rattle.meter.specs.Meaning.{fresh_meter_of, colour_of, filled_of, painted_of, meter_in_range};
 ghost use Rattle.meter.specs.Range.{Ready};
 
 use bucket::{Octets, Rate};
@@ -80,7 +80,7 @@ impl Meter {
 
     // A frame of `msdu` octets at `time`, in ns: the meter fills, then colours the frame and spends what it takes.
     // Ruled out: with coupling, committed tokens above CBS that are lost; a frame dropped for yellow that sets the red flag.
-    #[tactic(auto, using(crate::specs::Range::in_range, crate::proofs::Cases::colour_out_of_range, crate::proofs::Cases::colour_too_early, crate::proofs::Cases::colour_painted))]
+    #[tactic(auto, using(crate::specs::Range::in_range), unfolding(crate::specs::Meaning::colour_of))]
     pub fn colour(self, time: u64, msdu: Octets, drop_eligible: bool) -> Metered
         ensures { result ≡ colour_of self time msdu drop_eligible }
     {
@@ -106,99 +106,77 @@ impl Meter {
     {
         let cbs = self.cbs.0 as u64;
         let ebs = self.ebs.0 as u64;
-        if (cbs <= 1_000_000) & (ebs <= 1_000_000) {
-            (self.committed <= cbs * bucket::GRAINS)
+        (cbs <= 1_000_000) & (ebs <= 1_000_000)
+            && (self.committed <= cbs * bucket::GRAINS)
                 & (self.excess <= ebs * bucket::GRAINS)
                 & (self.cir.0 <= 10_000_000_000)
                 & (self.eir.0 <= 10_000_000_000)
                 & (self.last <= 4_611_686_018_427_387_904)
                 & (time <= 4_611_686_018_427_387_904)
                 & (msdu.0 <= 2000)
-        } else {
-            false
-        }
     }
 
-    // No product is wider than 64 bits: of what the committed rate brings, all that matters is what fits in both buckets.
+    // No sum is wider than 64 bits: of what the committed rate brings, all that matters is what fits in both buckets.
+    #[tactic(auto, unfolding(crate::specs::Meaning::filled_of))]
     fn fill(self, time: u64) -> Meter
         requires { Ready self time }
         ensures { result ≡ filled_of self time }
     {
-        let cir = self.cir;
-        let eir = self.eir;
         let d = time - self.last;
         let cbs = (self.cbs.0 as u64) * bucket::GRAINS;
         let ebs = (self.ebs.0 as u64) * bucket::GRAINS;
-        let committed = self.committed + bucket::grow(0, cir, cbs + ebs, d);
-        let own = self.excess + bucket::grow(0, eir, ebs, d);
-        let excess = own + spill(self.coupling, beyond(committed, cbs));
-        let mut m = self;
-        m.committed = lesser(cbs, committed);
-        m.excess = lesser(ebs, excess);
-        m.last = time;
-        m
+        let committed = bucket::grow(self.committed, self.cir, cbs + ebs, d);
+        let over = if self.coupling {
+            committed.saturating_sub(cbs)
+        } else {
+            0
+        };
+        Meter {
+            committed: committed.min(cbs),
+            excess: bucket::grow(self.excess + over, self.eir, ebs, d),
+            last: time,
+            ..self
+        }
     }
 
     #[tactic(auto, unfolding(crate::specs::Meaning::painted_of))]
     fn paint(self, need: u64, drop_eligible: bool) -> Metered
         ensures { result ≡ painted_of self need drop_eligible }
     {
-        let committed = self.committed;
-        let excess = self.excess;
-        let mut m = self;
         if self.red_flag {
             return Metered {
-                meter: m,
+                meter: self,
                 outcome: Outcome::Red,
             };
         }
-        if (!drop_eligible | !self.colour_aware) & (need <= committed) {
-            m.committed = committed - need;
+        if (!drop_eligible | !self.colour_aware) & (need <= self.committed) {
             return Metered {
-                meter: m,
+                meter: Meter {
+                    committed: self.committed - need,
+                    ..self
+                },
                 outcome: Outcome::Green,
             };
         }
-        if need <= excess {
-            m.excess = excess - need;
+        if need <= self.excess {
             return Metered {
-                meter: m,
-                outcome: yellow(self.drop_on_yellow),
+                meter: Meter {
+                    excess: self.excess - need,
+                    ..self
+                },
+                outcome: if self.drop_on_yellow {
+                    Outcome::YellowDropped
+                } else {
+                    Outcome::Yellow
+                },
             };
         }
-        m.red_flag = self.red_flag | self.red_block;
         Metered {
-            meter: m,
+            meter: Meter {
+                red_flag: self.red_block,
+                ..self
+            },
             outcome: Outcome::Red,
         }
-    }
-}
-
-fn lesser(a: u64, b: u64) -> u64
-    ensures { result ≡ min a b }
-{
-    if a < b { a } else { b }
-}
-
-// What of `n` is above `most`.
-fn beyond(n: u64, most: u64) -> u64
-    ensures { result ≡ n - most }
-{
-    if most < n { n - most } else { 0 }
-}
-
-fn spill(coupling: bool, over: u64) -> u64
-    ensures { result ≡ spilt coupling over }
-{
-    if coupling { over } else { 0 }
-}
-
-fn yellow(dropped: bool) -> Outcome
-    ensures { result ≡ yellow_outcome dropped }
-{
-    if dropped {
-        Outcome::YellowDropped
-    } else {
-        Outcome::Yellow
     }
 }

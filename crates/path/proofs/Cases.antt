@@ -1,5 +1,5 @@
 -- The cases of each step of a frame's path, each from the facts that the code has in hand there.
-use Rattle.std.specs.Prelude.{◌≡◌, ℕ, ◌<◌, ◌≤◌, Bool, true, false, not, ◌&&◌, ◌||◌, List, ◌==◌, ◌≢◌, nat_lt}
+use Rattle.std.specs.Prelude.{◌≡◌, ℕ, ◌<◌, ◌≤◌, Bool, true, false, not, ◌&&◌, ◌||◌, List, Option, Some, None, ◌==◌, ◌≢◌, nat_lt}
 use Rattle.std.proofs.Common.{ap, ◌∙◌, lt-ltb, le-ltb, eq-eqb, ne_eqb}
 use Rattle.gate.specs.declared.Stepped.{Stepped as GateStepped}
 use Rattle.gate.specs.declared.Outcome.{Outcome as GateOutcome}
@@ -14,16 +14,13 @@ use Rattle.record.specs.declared.Refusal.TheVariants.{TimeGoesBack}
 use Rattle.bank.specs.declared.Counters.{Counters}
 use Rattle.bank.specs.Meaning.{Rows, component, with_clock, counters, with_gate_state, with_meter_state, scheduler_group, with_scheduler_state, with_group_last}
 use Rattle.filter.specs.declared.Filter.{Filter}
-use Rattle.filter.specs.declared.Found.{Found}
-use Rattle.filter.specs.declared.Found.TheVariants.{Nothing, At}
+use Rattle.filter.specs.Meaning.{Found}
 use Rattle.verdict.specs.declared.Drop.TheVariants as drop
-use Rattle.verdict.specs.declared.Verdict.{Verdict}
-use Rattle.verdict.specs.declared.Verdict.TheVariants.{Refused, Dropped}
-use Rattle.verdict.specs.Meaning.{told}
+use Rattle.verdict.specs.Meaning.{Verdict, Refused, Dropped, told}
 use Rattle.path.specs.Meaning.{pass_of, sdu_failed, sdu_passed, offered_of, scheduled_by, scheduled_of, coloured_of, metered_by, metered_of, reached_of, gated_by, gated_of, sdu_filtered_of, arrival_of}
 
 module _ (s : Rows) (a : ArrivalRecord) (row : Filter) (priority mark : ℕ) where
-  pub scheduled_none : row.scheduler ≡ 255 → scheduled_of s a row priority mark ≡ told s (pass_of s priority mark false 0)
+  pub scheduled_none : row.scheduler ≡ 255 → scheduled_of s a row priority mark ≡ told s (pass_of s priority mark None)
   unfolding scheduled_of
   scheduled_none h = rw (eq-eqb _ _ h)
 
@@ -33,11 +30,11 @@ module _ (s : Rows) (a : ArrivalRecord) (row : Filter) (priority mark : ℕ) whe
   scheduled_by_lem h j ej r er o eo = rw (ne_eqb _ _ h, ← ej, ← er, eo)
 
 -- admitted: the scheduler is stored, then the group's last time, and the frame passes
-pub scheduled_admitted : (s s₁ s₂ : Rows) (a : ArrivalRecord) (i j priority mark at : ℕ) (x : Scheduler) (v : Verdict) → s₁ ≡ with_scheduler_state s i x → s₂ ≡ with_group_last s₁ j at → v ≡ pass_of s₂ priority mark true at
+pub scheduled_admitted : (s s₁ s₂ : Rows) (a : ArrivalRecord) (i j priority mark at : ℕ) (x : Scheduler) (v : Verdict) → s₁ ≡ with_scheduler_state s i x → s₂ ≡ with_group_last s₁ j at → v ≡ pass_of s₂ priority mark (Some at)
     → told s₂ v ≡ scheduled_by s a i j priority mark x (Admitted at)
 unfolding scheduled_by
 scheduled_admitted s s₁ s₂ a i j priority mark at x v e₁ e₂ ev =
-    ap (λ (u : Verdict). told s₂ u) ev ∙ ap (λ (t : Rows). told t (pass_of t priority mark true at)) (e₂ ∙ ap (λ (t : Rows). with_group_last t j at) e₁)
+    ap (λ (u : Verdict). told s₂ u) ev ∙ ap (λ (t : Rows). told t (pass_of t priority mark (Some at))) (e₂ ∙ ap (λ (t : Rows). with_group_last t j at) e₁)
 
 module _ (s : Rows) (a : ArrivalRecord) (f : ℕ) (row : Filter) (priority : ℕ) where
   pub metered_none : row.meter ≡ 255 → metered_of s a f row priority ≡ scheduled_of s a row priority a.drop_eligible
@@ -82,10 +79,10 @@ module _ (s : Rows) (lists : List ℕ) (a : ArrivalRecord) (found : Found) where
   unfolding arrival_of
   arrival_back h = rw (lt-ltb _ _ h)
 
-  pub arrival_matched : (f : ℕ) (row : Filter) → (component s).clock ≤ a.time → found ≡ At f row → arrival_of s lists a found ≡ sdu_filtered_of ticked lists a f row
+  pub arrival_matched : (f : ℕ) (row : Filter) → (component s).clock ≤ a.time → found ≡ Some (f, row) → arrival_of s lists a found ≡ sdu_filtered_of ticked lists a f row
   unfolding arrival_of
   arrival_matched f row h k = rw (le-ltb _ _ h, k)
 
-  pub arrival_unmatched : (component s).clock ≤ a.time → found ≡ Nothing → arrival_of s lists a found ≡ told ticked (pass_of ticked a.priority a.drop_eligible false 0)
+  pub arrival_unmatched : (component s).clock ≤ a.time → found ≡ None → arrival_of s lists a found ≡ told ticked (pass_of ticked a.priority a.drop_eligible None)
   unfolding arrival_of
   arrival_unmatched h k = rw (le-ltb _ _ h, k)

@@ -17,9 +17,7 @@ use Rattle.bank.specs.Meaning.{Rows, scheduler_group}
 use Rattle.filter.specs.declared.Filter.{Filter}
 use Rattle.verdict.specs.declared.Drop.{Drop}
 use Rattle.verdict.specs.declared.Drop.TheVariants as drop
-use Rattle.verdict.specs.declared.Verdict.{Verdict}
-use Rattle.verdict.specs.declared.Verdict.TheVariants.{Dropped}
-use Rattle.verdict.specs.Meaning.{drop_number_of}
+use Rattle.verdict.specs.Meaning.{Verdict, Dropped, drop_number_of}
 use Rattle.path.specs.Meaning.{offered_of, scheduled_by, scheduled_of, coloured_of, metered_by, metered_of, reached_of, gated_by, gated_of}
 
 -- the verdict is a drop, and n its number

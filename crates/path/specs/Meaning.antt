@@ -1,11 +1,9 @@
 -- A frame's path: document 01's five steps, from the last to the first, since each ends in the next.
 -- `s` is the bank's rows, `a` the arrival, `f` the matched filter's number and `row` its row.
-use Rattle.std.specs.Prelude.{ℕ, ◌*◌, ◌%◌, ◌^◌, Bool, true, false, cond, not, ◌&&◌, ◌||◌, List, take, drop, ◌==◌, nat_le, nat_lt}
+use Rattle.std.specs.Prelude.{ℕ, ◌*◌, ◌%◌, ◌^◌, Bool, cond, not, ◌&&◌, ◌||◌, List, take, drop, Option, Some, None, ◌==◌, nat_le, nat_lt}
 use Rattle.sizes.specs.Meaning.{gate_count, entry_octets, list_octets}
 use Rattle.bucket.specs.declared.Octets.{Octets}
 use Rattle.frame.specs.Meaning.{frame_of}
-use Rattle.class.specs.declared.Class.{Class}
-use Rattle.class.specs.declared.Class.TheVariants.{Of, Refused as NoClass}
 use Rattle.class.specs.Meaning.{traffic_class_of}
 use Rattle.gate.specs.declared.Stepped.{Stepped as GateStepped}
 use Rattle.gate.specs.declared.Outcome.{Outcome as GateOutcome}
@@ -25,11 +23,8 @@ use Rattle.record.specs.declared.Refusal.TheVariants.{TimeGoesBack}
 use Rattle.bank.specs.Meaning.{Rows, is_set, component, with_clock, port, with_discarded, counters, one_more, bump, with_oversize, gate, entries, with_gate_state, meter, with_meter_state, scheduler, scheduler_group, with_scheduler_state, group, with_group_last}
 use Rattle.bank.specs.declared.Counter.TheVariants.{Matching, PassingSdu, NotPassingSdu, Passing, NotPassing, Red as RedFrames}
 use Rattle.filter.specs.declared.Filter.{Filter}
-use Rattle.filter.specs.declared.Found.{Found}
-use Rattle.filter.specs.declared.Found.TheVariants.{Nothing, At}
-use Rattle.verdict.specs.declared.Verdict.{Verdict}
-use Rattle.verdict.specs.declared.Verdict.TheVariants.{Refused, Passed, Dropped}
-use Rattle.verdict.specs.Meaning.{Told, told}
+use Rattle.filter.specs.Meaning.{Found}
+use Rattle.verdict.specs.Meaning.{Verdict, Refused, Passed, Dropped, Told, told}
 use Rattle.verdict.specs.declared.Drop.TheVariants as drop
 
 -- ---- what a pass carries
@@ -38,17 +33,17 @@ use Rattle.verdict.specs.declared.Drop.TheVariants as drop
 abbrev pub internal_of : ℕ → ℕ → ℕ
 internal_of ipv own = cond (nat_le ipv 7) ipv own
 
-abbrev pub class_in : Class → ℕ
-class_in (Of c) = c
-class_in NoClass = 0
+abbrev pub class_in : Option ℕ → ℕ
+class_in (Some c) = c
+class_in None = 0
 
 -- the number of classes, one octet as start's record has it: a word that no start wrote is cut to it
 abbrev pub class_count : Rows → ℕ
 class_count s = (component s).classes % 2 ^ 8
 
 -- internal priority, its traffic class, drop mark, and eligibility time or none
-unfoldable pub pass_of : Rows → ℕ → ℕ → Bool → ℕ → Verdict
-pass_of s priority mark timed at = Passed (record { priority = priority; class = class_in (traffic_class_of priority (class_count s)); drop_mark = mark; timed = timed; eligible = at })
+unfoldable pub pass_of : Rows → ℕ → ℕ → Option ℕ → Verdict
+pass_of s priority mark eligible = Passed (record { priority = priority; class = class_in (traffic_class_of priority (class_count s)); drop_mark = mark; eligible = eligible })
 
 -- ---- counters: what step 2, 3 or 4 counts of filter `f`; all others stay
 
@@ -86,7 +81,7 @@ charged_of s a = frame_of a.msdu (port s a.port).overhead
 unfoldable pub scheduled_by : Rows → ArrivalRecord → ℕ → ℕ → ℕ → ℕ → Scheduler → SchedulerOutcome → Told
 scheduled_by s a i j priority mark x (Admitted at) =
     let s' = with_group_last (with_scheduler_state s i x) j at in
-    told s' (pass_of s' priority mark true at)
+    told s' (pass_of s' priority mark (Some at))
 scheduled_by s a i j priority mark x Late = told (discard_counted s a.port) (Dropped drop.Residence)
 scheduled_by s a i j priority mark x Unsound = told (discard_counted s a.port) (Dropped drop.Residence)
 
@@ -97,7 +92,7 @@ unfoldable pub scheduled_of : Rows → ArrivalRecord → Filter → ℕ → ℕ 
 scheduled_of s a row priority mark =
     let i = row.scheduler in
     let j = scheduler_group s i in
-    cond (i == 255) (told s (pass_of s priority mark false 0)) (scheduled_by s a i j priority mark (offered_of s a i j).scheduler (offered_of s a i j).outcome)
+    cond (i == 255) (told s (pass_of s priority mark None)) (scheduled_by s a i j priority mark (offered_of s a i j).scheduler (offered_of s a i j).outcome)
 
 -- ---- 4. Meter, if named. Yellow with drop on yellow: drop 6. Red: drop 7. Both count REDFrames. Yellow otherwise makes the frame drop eligible
 
@@ -152,8 +147,8 @@ sdu_filtered_of s lists a f row =
 -- ---- 1. The first filter that matches is used. None: the frame passes, no counter moves, own priority, no eligibility time
 
 abbrev pub matched_of : Rows → List ℕ → ArrivalRecord → Found → Told
-matched_of s lists a (At f row) = sdu_filtered_of s lists a f row
-matched_of s lists a Nothing = told s (pass_of s a.priority a.drop_eligible false 0)
+matched_of s lists a (Some (f, row)) = sdu_filtered_of s lists a f row
+matched_of s lists a None = told s (pass_of s a.priority a.drop_eligible None)
 
 -- ---- an arrival. Refusal 9: its time is before that of the last taken arrival
 

@@ -1,244 +1,170 @@
 // A frame's path: document 01's five steps, each a function that ends in a drop or in the next step.
 #![tactic(auto)]
 
-ghost use Rattle.std.specs.Prelude.{◌≡◌, ◌*◌, ◌%◌, ◌≤◌, length, take, drop};
-ghost use Rattle.sizes.specs.Meaning.{gate_count, entry_count, entry_octets, list_octets, lists_octets};
-ghost use Rattle.gate.specs.Meaning.{entries_of, gate_step_of};
-ghost use Rattle.bank.specs.Meaning.{rows_of};
-ghost use Rattle.verdict.specs.Meaning.{told};
-ghost use Rattle.path.specs.Meaning.{internal_of, class_in, pass_of, sdu_passed, sdu_failed, gate_passed, gate_failed, red_counted, discard_counted, charged_of, scheduled_of, metered_of, gated_of, sdu_filtered_of, arrival_of};
+ghost use Rattle.std.specs.Prelude.{◌≡◌};
+ghost use Rattle.bank.specs.Meaning.{rows_of, bump, with_oversize};
+ghost use Rattle.verdict.specs.Meaning.{told, Dropped, said, verdict_of};
+ghost use Rattle.path.specs.Meaning.{pass_of, scheduled_of, metered_of, gated_of, sdu_filtered_of, arrival_of};
 
-use bank::{Counter, Lists, Words};
+use bank::{Bank, Counter, Lists};
 use bucket::Octets;
-use class::Class;
-use filter::{Filter, Found};
-use gate::{Gate, Stepped};
+use filter::Filter;
 use record::{ArrivalRecord, Refusal};
-use verdict::{Drop, Pass, Verdict};
+use scheduler::Offer;
+use verdict::{Drop, Outcome, Pass};
 
 // An arrival, where `found` is the first filter that matches.
 // Ruled out: every frame passing at its arrival time; an arrival that is refused moving the clock.
-pub fn arrive(bank: &mut Words, lists: &Lists, a: ArrivalRecord, found: Found) -> Verdict
-    ensures { told (rows_of bank.new) result ≡ arrival_of (rows_of bank.old) lists.now a found }
+pub fn arrive(
+    bank: &mut Bank,
+    lists: &Lists,
+    a: ArrivalRecord,
+    found: Option<(usize, Filter)>,
+) -> Result<Outcome, Refusal>
+    ensures { told (rows_of bank.new) (said result) ≡ arrival_of (rows_of bank.old) lists.now a found }
 {
-    let component = bank::component_at(bank);
-    if a.time < component.clock {
-        return Verdict::Refused(Refusal::TimeGoesBack);
+    if a.time < bank.component_at().clock {
+        return Err(Refusal::TimeGoesBack);
     }
-    bank::put_clock(bank, a.time);
+    bank.put_clock(a.time);
     match found {
-        Found::At(f, row) => filter_sdu(bank, lists, a, f, row),
-        Found::Nothing => pass(bank, a.priority, a.drop_eligible, false, 0),
+        Some((place, row)) => {
+            let frame = Frame {
+                arrival: a,
+                place,
+                row,
+            };
+            Ok(frame.filter_sdu(bank, lists))
+        }
+        None => Ok(pass(bank, a.priority, a.drop_eligible, None)),
     }
 }
 
-// 2: the maximum SDU filter.
-fn filter_sdu(bank: &mut Words, lists: &Lists, a: ArrivalRecord, f: usize, row: Filter) -> Verdict
-    ensures { told (rows_of bank.new) result ≡ sdu_filtered_of (rows_of bank.old) lists.now a f row }
-{
-    let c = bank::counters_at(bank, f);
-    let block = row.oversize_block == 1;
-    if block & c.oversize {
-        count_sdu_failed(bank, f, c.oversize);
-        return Verdict::Dropped(Drop::OversizeBlocked);
-    }
-    if (row.max_sdu != 0) & (row.max_sdu < a.msdu) {
-        count_sdu_failed(bank, f, c.oversize | block);
-        return Verdict::Dropped(Drop::Oversize);
-    }
-    count_sdu_passed(bank, f);
-    reach(bank, lists, a, f, row)
+// A frame on its way: the arrival, and the place and the row of the filter that it matches.
+struct Frame {
+    arrival: ArrivalRecord,
+    place: usize,
+    row: Filter,
 }
 
-// 3: the gate.
-fn reach(bank: &mut Words, lists: &Lists, a: ArrivalRecord, f: usize, row: Filter) -> Verdict
-    ensures { told (rows_of bank.new) result ≡ gated_of (rows_of bank.old) lists.now a f row }
-{
-    let i = row.gate as usize;
-    let g = bank::gate_at(bank, i);
-    let n = bank::entries_at(bank, i);
-    let r = step_in(lists, i, n, g, a.time, a.msdu as u64);
-    let after = r.gate;
-    bank::put_gate_state(bank, i, after);
-    let o = r.outcome;
-    match o {
-        gate::Outcome::Passed(ipv) => {
-            count_gate_passed(bank, f);
-            metered(bank, a, f, row, internal(ipv, a.priority))
+impl Frame {
+    // 2: the maximum SDU filter.
+    fn filter_sdu(&self, bank: &mut Bank, lists: &Lists) -> Outcome
+        ensures { told (rows_of bank.new) (verdict_of result) ≡ sdu_filtered_of (rows_of bank.old) lists.now self.now.arrival self.now.place self.now.row }
+    {
+        let oversize = bank.counters_at(self.place).oversize;
+        let block = self.row.oversize_block == 1;
+        bank.count(self.place, Counter::Matching);
+        if block && oversize {
+            return self.drop_sdu(bank, oversize, Drop::OversizeBlocked);
         }
-        gate::Outcome::Blocked => {
-            count_gate_failed(bank, f);
-            Verdict::Dropped(Drop::GateBlocked)
+        if self.row.max_sdu != 0 && self.row.max_sdu < self.arrival.msdu {
+            return self.drop_sdu(bank, oversize || block, Drop::Oversize);
         }
-        gate::Outcome::Closed => {
-            count_gate_failed(bank, f);
-            Verdict::Dropped(Drop::GateClosed)
-        }
-        gate::Outcome::TooManyOctets => {
-            count_gate_failed(bank, f);
-            Verdict::Dropped(Drop::GateOctets)
-        }
+        bank.count(self.place, Counter::PassingSdu);
+        self.reach(bank, lists)
     }
-}
 
-// The step of gate `i` over its own part of the lists, `n` entries long.
-fn step_in(lists: &[u8], i: usize, n: usize, g: Gate, time: u64, msdu: u64) -> Stepped
-    requires { (length lists.now ≡ lists_octets) × (n ≤ entry_count) }
-    ensures { result ≡ gate_step_of g (entries_of (take (n * entry_octets) (drop (i % gate_count * list_octets) lists.now))) time msdu }
-{
-    let from = i % sizes::GATES * sizes::LIST;
-    let end = from + n * sizes::ENTRY;
-    gate::step(g, &lists[from..end], time, msdu)
-}
+    // A drop by the maximum SDU filter, whose oversize flag is then at `flag`.
+    fn drop_sdu(&self, bank: &mut Bank, flag: bool, why: Drop) -> Outcome
+        ensures { told (rows_of bank.new) (verdict_of result) ≡ told (with_oversize (bump (rows_of bank.old) self.now.place Counter.NotPassingSdu) self.now.place flag) (Dropped why) }
+    {
+        let dropped = self.drop_counted(bank, Counter::NotPassingSdu, why);
+        bank.put_oversize(self.place, flag);
+        dropped
+    }
 
-// 4: the meter, if named.
-fn metered(bank: &mut Words, a: ArrivalRecord, f: usize, row: Filter, priority: u8) -> Verdict
-    ensures { told (rows_of bank.new) result ≡ metered_of (rows_of bank.old) a f row priority }
-{
-    if row.meter == 255 {
-        return schedule(bank, a, row, priority, a.drop_eligible);
+    // A drop that `counter` counts.
+    fn drop_counted(&self, bank: &mut Bank, counter: Counter, why: Drop) -> Outcome
+        ensures { told (rows_of bank.new) (verdict_of result) ≡ told (bump (rows_of bank.old) self.now.place counter) (Dropped why) }
+    {
+        bank.count(self.place, counter);
+        Outcome::Dropped(why)
     }
-    let i = row.meter as usize;
-    let m = bank::meter_at(bank, i);
-    let r = m.colour(a.time, Octets(a.msdu as u32), a.drop_eligible != 0);
-    let after = r.meter;
-    bank::put_meter_state(bank, i, after);
-    let o = r.outcome;
-    match o {
-        meter::Outcome::Green => schedule(bank, a, row, priority, a.drop_eligible),
-        meter::Outcome::Yellow => schedule(bank, a, row, priority, 1),
-        meter::Outcome::YellowDropped => {
-            count_red(bank, f);
-            Verdict::Dropped(Drop::Yellow)
-        }
-        meter::Outcome::Red => {
-            count_red(bank, f);
-            Verdict::Dropped(Drop::Red)
-        }
-        meter::Outcome::OutOfRange => {
-            count_red(bank, f);
-            Verdict::Dropped(Drop::Red)
-        }
-        meter::Outcome::TooEarly => {
-            count_red(bank, f);
-            Verdict::Dropped(Drop::Red)
-        }
-    }
-}
 
-// 5: the scheduler, if named.
-fn schedule(bank: &mut Words, a: ArrivalRecord, row: Filter, priority: u8, mark: u8) -> Verdict
-    ensures { told (rows_of bank.new) result ≡ scheduled_of (rows_of bank.old) a row priority mark }
-{
-    if row.scheduler == 255 {
-        return pass(bank, priority, mark, false, 0);
+    // 3: the gate. Its list is its own part of the lists.
+    fn reach(&self, bank: &mut Bank, lists: &Lists) -> Outcome
+        ensures { told (rows_of bank.new) (verdict_of result) ≡ gated_of (rows_of bank.old) lists.now self.now.arrival self.now.place self.now.row }
+    {
+        let i = self.row.gate as usize;
+        let from = i % sizes::GATES * sizes::LIST;
+        let list = &lists[from..from + bank.entries_at(i) * sizes::ENTRY];
+        let stepped = gate::step(bank.gate_at(i), list, self.arrival.time, self.arrival.msdu as u64);
+        bank.put_gate_state(i, stepped.gate);
+        match stepped.outcome {
+            gate::Outcome::Passed(ipv) => {
+                bank.count(self.place, Counter::Passing);
+                let priority = if ipv <= 7 { ipv } else { self.arrival.priority };
+                self.meter(bank, priority)
+            }
+            gate::Outcome::Blocked => self.drop_counted(bank, Counter::NotPassing, Drop::GateBlocked),
+            gate::Outcome::Closed => self.drop_counted(bank, Counter::NotPassing, Drop::GateClosed),
+            gate::Outcome::TooManyOctets => self.drop_counted(bank, Counter::NotPassing, Drop::GateOctets),
+        }
     }
-    let i = row.scheduler as usize;
-    let j = bank::scheduler_group(bank, i);
-    let s = bank::scheduler_at(bank, i);
-    let g = bank::group_at(bank, j);
-    let length = charged(bank, a);
-    let r = scheduler::offered(s, g.last, g.residence, a.time, length);
-    let after = r.scheduler;
-    let o = r.outcome;
-    match o {
-        scheduler::Outcome::Admitted { at } => {
-            bank::put_scheduler_state(bank, i, after);
-            bank::put_group_last(bank, j, at);
-            pass(bank, priority, mark, true, at)
+
+    // 4: the meter, if named.
+    fn meter(&self, bank: &mut Bank, priority: u8) -> Outcome
+        ensures { told (rows_of bank.new) (verdict_of result) ≡ metered_of (rows_of bank.old) self.now.arrival self.now.place self.now.row priority }
+    {
+        let a = self.arrival;
+        if self.row.meter == 255 {
+            return self.schedule(bank, priority, a.drop_eligible);
         }
-        scheduler::Outcome::Dropped => {
-            discard(bank, a.port as usize);
-            Verdict::Dropped(Drop::Residence)
+        let i = self.row.meter as usize;
+        let metered = bank.meter_at(i).colour(a.time, Octets(a.msdu as u32), a.drop_eligible != 0);
+        bank.put_meter_state(i, metered.meter);
+        match metered.outcome {
+            meter::Outcome::Green => self.schedule(bank, priority, a.drop_eligible),
+            meter::Outcome::Yellow => self.schedule(bank, priority, 1),
+            meter::Outcome::YellowDropped => self.drop_counted(bank, Counter::Red, Drop::Yellow),
+            meter::Outcome::Red | meter::Outcome::OutOfRange | meter::Outcome::TooEarly => {
+                self.drop_counted(bank, Counter::Red, Drop::Red)
+            }
         }
-        scheduler::Outcome::Refused => {
-            discard(bank, a.port as usize);
-            Verdict::Dropped(Drop::Residence)
+    }
+
+    // 5: the scheduler, if named.
+    fn schedule(&self, bank: &mut Bank, priority: u8, mark: u8) -> Outcome
+        ensures { told (rows_of bank.new) (verdict_of result) ≡ scheduled_of (rows_of bank.old) self.now.arrival self.now.row priority mark }
+    {
+        if self.row.scheduler == 255 {
+            return pass(bank, priority, mark, None);
+        }
+        let i = self.row.scheduler as usize;
+        let j = bank.scheduler_group(i);
+        let group = bank.group_at(j);
+        let port = bank.port_at(self.arrival.port as usize);
+        let stepped = bank.scheduler_at(i).offered(Offer {
+            group: group.last,
+            residence: group.residence,
+            arrival: self.arrival.time,
+            length: frame::length(self.arrival.msdu, port.overhead),
+        });
+        match stepped.outcome {
+            scheduler::Outcome::Admitted { at } => {
+                bank.put_scheduler_state(i, stepped.scheduler);
+                bank.put_group_last(j, at);
+                pass(bank, priority, mark, Some(at))
+            }
+            scheduler::Outcome::Dropped | scheduler::Outcome::Refused => {
+                bank.put_discarded(self.arrival.port as usize, port.discarded.wrapping_add(1));
+                Outcome::Dropped(Drop::Residence)
+            }
         }
     }
 }
 
 // A pass, with what it carries.
 #[tactic(auto, unfolding(crate::specs::Meaning::pass_of))]
-fn pass(bank: &Words, priority: u8, mark: u8, timed: bool, at: u64) -> Verdict
-    ensures { result ≡ pass_of (rows_of bank.now) priority mark timed at }
+fn pass(bank: &Bank, priority: u8, drop_mark: u8, eligible: Option<u64>) -> Outcome
+    ensures { verdict_of result ≡ pass_of (rows_of bank.now) priority drop_mark eligible }
 {
-    let component = bank::component_at(bank);
-    let c = class::traffic_class(priority, (component.classes % 256) as u8);
-    Verdict::Passed(Pass {
+    let classes = (bank.component_at().classes % 256) as u8;
+    Outcome::Passed(Pass {
         priority,
-        class: number(c),
-        drop_mark: mark,
-        timed,
-        eligible: at,
+        class: class::traffic_class(priority, classes).unwrap_or(0),
+        drop_mark,
+        eligible,
     })
-}
-
-fn number(c: Class) -> u8
-    ensures { result ≡ class_in c }
-{
-    match c {
-        Class::Of(n) => n,
-        Class::Refused => 0,
-    }
-}
-
-fn internal(ipv: u8, own: u8) -> u8
-    ensures { result ≡ internal_of ipv own }
-{
-    if ipv <= 7 { ipv } else { own }
-}
-
-// What the scheduler charges.
-fn charged(bank: &Words, a: ArrivalRecord) -> Octets
-    ensures { result ≡ charged_of (rows_of bank.now) a }
-{
-    let p = bank::port_at(bank, a.port as usize);
-    frame::length(a.msdu, p.overhead)
-}
-
-#[tactic(auto, unfolding(crate::specs::Meaning::discard_counted))]
-fn discard(bank: &mut Words, i: usize)
-    ensures { rows_of bank.new ≡ discard_counted (rows_of bank.old) i }
-{
-    let p = bank::port_at(bank, i);
-    bank::put_discarded(bank, i, std::num::wrapping_add_u64(p.discarded, 1));
-}
-
-#[tactic(auto, unfolding(crate::specs::Meaning::sdu_passed))]
-fn count_sdu_passed(bank: &mut Words, f: usize)
-    ensures { rows_of bank.new ≡ sdu_passed (rows_of bank.old) f }
-{
-    bank::count(bank, f, Counter::Matching);
-    bank::count(bank, f, Counter::PassingSdu);
-}
-
-#[tactic(auto, unfolding(crate::specs::Meaning::sdu_failed))]
-fn count_sdu_failed(bank: &mut Words, f: usize, flag: bool)
-    ensures { rows_of bank.new ≡ sdu_failed (rows_of bank.old) f flag }
-{
-    bank::count(bank, f, Counter::Matching);
-    bank::count(bank, f, Counter::NotPassingSdu);
-    bank::put_oversize(bank, f, flag);
-}
-
-#[tactic(auto, unfolding(crate::specs::Meaning::gate_passed))]
-fn count_gate_passed(bank: &mut Words, f: usize)
-    ensures { rows_of bank.new ≡ gate_passed (rows_of bank.old) f }
-{
-    bank::count(bank, f, Counter::Passing);
-}
-
-#[tactic(auto, unfolding(crate::specs::Meaning::gate_failed))]
-fn count_gate_failed(bank: &mut Words, f: usize)
-    ensures { rows_of bank.new ≡ gate_failed (rows_of bank.old) f }
-{
-    bank::count(bank, f, Counter::NotPassing);
-}
-
-#[tactic(auto, unfolding(crate::specs::Meaning::red_counted))]
-fn count_red(bank: &mut Words, f: usize)
-    ensures { rows_of bank.new ≡ red_counted (rows_of bank.old) f }
-{
-    bank::count(bank, f, Counter::Red);
 }

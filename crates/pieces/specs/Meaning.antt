@@ -1,15 +1,20 @@
 -- What stands in the buffer of a piece after a read, what is kept of it at the front, and what is said of a read or a write that fails.
-use Rattle.std.specs.Prelude.{ℕ, ◌≤◌, ◌≡◌, List, [], ◌++◌, length, take, drop}
+use Rattle.std.specs.Prelude.{ℕ, ◌≤◌, ◌≡◌, List, ◌++◌, length, take, drop, Result, Ok, Err}
 use Rattle.std.proofs.Math.Seq.{slice}
 use Rattle.text.specs.Meaning.{ascii}
 use Rattle.pieces.specs.declared.Failure.{Failure}
-use Rattle.pieces.specs.declared.Failure.TheVariants.{Nothing, Input, Output}
+use Rattle.pieces.specs.declared.Failure.TheVariants.{Input, Output}
 
 -- up to `end` there are the octets that were kept, and behind them those that were read
 pub record Fills (before : List ℕ) (kept : ℕ) (after : List ℕ) (end : ℕ) : Type 0 where
   pub read : List ℕ
   pub there : take end after ≡ take kept before ++ read
   pub within : end ≤ length after
+
+-- and those that were kept are as they were where the read fails
+abbrev pub Filled : List ℕ → ℕ → List ℕ → Result ℕ Failure → Type 0
+Filled before kept after (Ok end) = Fills before kept after end
+Filled before kept after (Err failure) = take kept after ≡ take kept before
 
 -- a buffer, and how many octets wait at its front
 pub record Kept : Type 0 where
@@ -27,6 +32,5 @@ kept_of buf from end = front_of buf (slice from end buf)
 
 -- the line that says so, after the program's name
 unfoldable pub complaint_of : List ℕ → Failure → List ℕ
-complaint_of program Nothing = []
 complaint_of program Input = program ++ ascii ": standard input cannot be read\n"
 complaint_of program Output = program ++ ascii ": standard output cannot be written\n"

@@ -7,7 +7,6 @@ use Rattle.sizes.specs.Meaning.{entry_octets}
 use Rattle.record.specs.declared.Record.{Record}
 use Rattle.record.specs.declared.Record.TheVariants.{GateEntry}
 use Rattle.record.specs.declared.GateEntryRecord.{GateEntryRecord}
-use Rattle.record.specs.declared.Reading.TheVariants.{Taken}
 use Rattle.record.specs.Meaning.{View, body_in, body_of, read_of}
 use Rattle.record.proofs.Laws.{read_uses}
 use Rattle.record.proofs.Ranges.{read_ranges}
@@ -36,7 +35,7 @@ body_extends s t used l h =
 -- ---- of a record that is read
 
 -- `body` shows the octets that follow the kind, one less than reading says are used
-pub read_body : (v : View) (started : Bool) (r : Record) (used : ℕ) → read_of v.octets started ≡ Taken r used
+pub read_body : (v : View) (started : Bool) (r : Record) (used : ℕ) → read_of v.octets started ≡ Ok (r, used)
     → ((body_of v used).octets ≡ take (used - 1) (drop 1 v.octets)) × (length (body_of v used).octets ≡ used - 1)
 unfolding body_of
 read_body v started r used e =

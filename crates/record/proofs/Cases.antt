@@ -9,8 +9,6 @@ use borrow.Author.Tests.{le-leb, lt-leb}
 use Rattle.std.proofs.Math.ListN.{take, get_or-eq_default}
 use Rattle.record.specs.Meaning.{View, body_in, body_of, Kind, kinds, kind_of, number_at, record_length, length_in, in_turn_in, whole_in, read_as, read_of}
 use Rattle.record.specs.declared.Refusal.TheVariants.{CutShort, UnknownKind, OutOfTurn}
-use Rattle.record.specs.declared.Reading.{Reading}
-use Rattle.record.specs.declared.Reading.TheVariants.{Refused}
 
 -- a record of a kind has an octet at least
 pub length_positive : (k : Kind) → 1 ≤ record_length k
@@ -62,17 +60,17 @@ module _ (n : ℕ) (started : Bool) where
 -- ---- the ways to read
 
 module _ (started : Bool) (s : List ℕ) where
-  unknown_as : (o : Option Kind) → length_in o ≡ 0 → read_as o started s ≡ Refused UnknownKind
+  unknown_as : (o : Option Kind) → length_in o ≡ 0 → read_as o started s ≡ Err UnknownKind
   unfolding read_as
   unknown_as none e = refl
   unknown_as (some k) e = absurd (omega (arith, length_positive k))
 
-  cut_as : (o : Option Kind) → (length_in o ≡ 0 → ⊥) → length s < length_in o → read_as o started s ≡ Refused CutShort
+  cut_as : (o : Option Kind) → (length_in o ≡ 0 → ⊥) → length s < length_in o → read_as o started s ≡ Err CutShort
   unfolding read_as
   cut_as none n h = absurd (n refl)
   cut_as (some k) n h = rw (lt-leb (record_length k) (length s) h)
 
-  turn_as : (o : Option Kind) → (length_in o ≡ 0 → ⊥) → length_in o ≤ length s → in_turn_in o started ≡ false → read_as o started s ≡ Refused OutOfTurn
+  turn_as : (o : Option Kind) → (length_in o ≡ 0 → ⊥) → length_in o ≤ length s → in_turn_in o started ≡ false → read_as o started s ≡ Err OutOfTurn
   unfolding read_as
   turn_as none n h e = absurd (n refl)
   turn_as (some k) n h e = rw (le-leb (record_length k) (length s) h, e)
@@ -97,7 +95,7 @@ enough n k m e h = rw e at h
 pub whole_is : (n k : ℕ) (s : List ℕ) (r : Reading) → n ≡ k → r ≡ whole_in (kind_of k) s → r ≡ whole_in (kind_of n) s
 whole_is n k s r e h = rw e h
 
-pub read_empty : (s : List ℕ) (started : Bool) → length s ≡ 0 → read_of s started ≡ Refused CutShort
+pub read_empty : (s : List ℕ) (started : Bool) → length s ≡ 0 → read_of s started ≡ Err CutShort
 unfolding read_of
 read_empty [] started e = refl
 read_empty (n ∷ s) started e = absurd (omega arith)
@@ -109,15 +107,15 @@ read_first [] started h = absurd (h refl)
 read_first (n ∷ s) started h = refl
 
 module _ (s : List ℕ) (started : Bool) (some-octet : length s ≡ 0 → ⊥) where
-  pub read_unknown : (u : ℕ) → u ≡ length_in (kind_of (get_or s 0 0)) → u ≡ 0 → read_of s started ≡ Refused UnknownKind
+  pub read_unknown : (u : ℕ) → u ≡ length_in (kind_of (get_or s 0 0)) → u ≡ 0 → read_of s started ≡ Err UnknownKind
   read_unknown u e z = read_first s started some-octet ∙ unknown_as _ s (kind_of (get_or s 0 0)) (sym e ∙ z)
 
   module _ (u : ℕ) (e : u ≡ length_in (kind_of (get_or s 0 0))) (known : u ≡ 0 → ⊥) where
-    pub read_cut : length s < u → read_of s started ≡ Refused CutShort
+    pub read_cut : length s < u → read_of s started ≡ Err CutShort
     read_cut h = read_first s started some-octet ∙ cut_as _ s (kind_of (get_or s 0 0)) (λ z. known (e ∙ z)) (rw e at h)
 
     module _ (whole : u ≤ length s) where
-      pub read_turn : in_turn_in (kind_of (get_or s 0 0)) started ≡ false → read_of s started ≡ Refused OutOfTurn
+      pub read_turn : in_turn_in (kind_of (get_or s 0 0)) started ≡ false → read_of s started ≡ Err OutOfTurn
       read_turn t = read_first s started some-octet ∙ turn_as _ s (kind_of (get_or s 0 0)) (λ z. known (e ∙ z)) (rw e at whole) t
 
       pub read_whole : in_turn_in (kind_of (get_or s 0 0)) started ≡ true → read_of s started ≡ whole_in (kind_of (get_or s 0 0)) s

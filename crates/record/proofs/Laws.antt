@@ -9,8 +9,6 @@ use Rattle.logic.specs.Laws.{both}
 use Rattle.record.specs.declared.Record.{Record}
 use Rattle.record.specs.declared.Refusal.{Refusal}
 use Rattle.record.specs.declared.Refusal.TheVariants.{CutShort, OutOfRange, OutOfTurn}
-use Rattle.record.specs.declared.Reading.{Reading}
-use Rattle.record.specs.declared.Reading.TheVariants.{Refused, Taken}
 use Rattle.record.specs.Meaning.{Kind, port, filter, gate, gate_entry, meter, group, scheduler, start, arrival, clear, kinds, kind_of, Turn, before, after, Field, octet_of, turn_of, fields_of, widths_of, fields_in_range, number_at, values_at, big_endian_of, encoded_of, record_of, record_length, length_in, comes, in_turn_of, in_turn_in, read_as, read_of}
 use Rattle.record.proofs.Sorts.{turn_in, Setup}
 use Rattle.record.proofs.Cases.{length_positive, read_turn}
@@ -35,13 +33,13 @@ module _ (s t : List ℕ) where
 
 -- ---- what a taken record is
 
-not_taken : {f : Refusal} {r : Record} {u : ℕ} → Refused f ≡ Taken r u → ⊥
+not_taken : {f : Refusal} {r : Record} {u : ℕ} → Err f ≡ Ok (r, u) → ⊥
 not_taken e = let z : ◌≡◌ {A = ℕ} 0 1 = cc in omega arith
 
 none_some : (k : Kind) → none ≡ some k → ⊥
 none_some k e = let z : ◌≡◌ {A = ℕ} 0 1 = cc in omega arith
 
-cond_taken : (b : Bool) (x : Reading) (f : Refusal) (r : Record) (u : ℕ) → cond b x (Refused f) ≡ Taken r u → (b ≡ true) × (x ≡ Taken r u)
+cond_taken : (b : Bool) (x : Reading) (f : Refusal) (r : Record) (u : ℕ) → cond b x (Err f) ≡ Ok (r, u) → (b ≡ true) × (x ≡ Ok (r, u))
 cond_taken true x f r u e = (refl, e)
 cond_taken false x f r u e = absurd (not_taken e)
 
@@ -56,29 +54,29 @@ pub record Says (s : List ℕ) (started : Bool) (r : Record) (used : ℕ) : Type
   pub uses : record_length kind ≡ used
 
 module _ (s : List ℕ) (started : Bool) (r : Record) (used : ℕ) where
-  says_as : (o : Option Kind) → kind_of (get_or s 0 0) ≡ o → read_as o started s ≡ Taken r used → Says s started r used
+  says_as : (o : Option Kind) → kind_of (get_or s 0 0) ≡ o → read_as o started s ≡ Ok (r, used) → Says s started r used
   unfolding read_as
   says_as none q e = absurd (not_taken e)
   says_as (some k) q e =
       let a = cond_taken (leb (record_length k) (length s)) _ CutShort r used e in
       let b = cond_taken (in_turn_of k started) _ OutOfTurn r used a.1 in
       let c = cond_taken (fields_in_range k (values_at s 1 (fields_of k))) _ OutOfRange r used b.1 in
-      let d : Taken (record_of k (values_at s 1 (fields_of k))) (record_length k) ≡ Taken r used = c.1 in
+      let d : Taken (record_of k (values_at s 1 (fields_of k))) (record_length k) ≡ Ok (r, used) = c.1 in
       record { kind = k; said = q; whole = leb-true _ _ a.0; in_turn = b.0; in_range = c.0; is = cc; uses = cc }
 
-pub read_says : (s : List ℕ) (started : Bool) (r : Record) (used : ℕ) → read_of s started ≡ Taken r used → Says s started r used
+pub read_says : (s : List ℕ) (started : Bool) (r : Record) (used : ℕ) → read_of s started ≡ Ok (r, used) → Says s started r used
 unfolding read_of
 read_says [] started r used e = absurd (not_taken e)
 read_says (n ∷ s) started r used e = says_as (n ∷ s) started r used (kind_of n) refl e
 
-pub says_read : (s : List ℕ) (started : Bool) (r : Record) (used : ℕ) → Says s started r used → read_of s started ≡ Taken r used
+pub says_read : (s : List ℕ) (started : Bool) (r : Record) (used : ℕ) → Says s started r used → read_of s started ≡ Ok (r, used)
 unfolding read_of read_as
 says_read [] started r used y = absurd (none_some y.kind y.said)
 says_read (n ∷ s) started r used y =
     rw (y.said, le-leb (record_length y.kind) (length (n ∷ s)) y.whole, y.in_turn, y.in_range, y.is, y.uses)
 
 -- a record uses an octet at least, and no more than are there
-pub read_uses : (s : List ℕ) (started : Bool) (r : Record) (used : ℕ) → read_of s started ≡ Taken r used → (1 ≤ used) × (used ≤ length s)
+pub read_uses : (s : List ℕ) (started : Bool) (r : Record) (used : ℕ) → read_of s started ≡ Ok (r, used) → (1 ≤ used) × (used ≤ length s)
 read_uses s started r used e =
     let y = read_says s started r used e in
     (omega (arith, length_positive y.kind, y.uses), omega (arith, y.whole, y.uses))
@@ -86,7 +84,7 @@ read_uses s started r used e =
 -- ---- nothing past the record's end is looked at
 
 -- any other octets that agree with these up to the record's end are read as the same record
-pub read_front : (s t : List ℕ) (started : Bool) (r : Record) (used : ℕ) → read_of s started ≡ Taken r used → Agree s t 0 used → used ≤ length t → read_of t started ≡ Taken r used
+pub read_front : (s t : List ℕ) (started : Bool) (r : Record) (used : ℕ) → read_of s started ≡ Ok (r, used) → Agree s t 0 used → used ≤ length t → read_of t started ≡ Ok (r, used)
 read_front s t started r used e h l =
     let y = read_says s started r used e in
     let first : get_or s 0 0 ≡ get_or t 0 0 = h 0 (omega arith) (omega (arith, length_positive y.kind, y.uses)) in
@@ -107,7 +105,7 @@ by_test : {A : Type 0} (b : Bool) → (b ≡ true → A) → (b ≡ false → A)
 by_test true f g = f refl
 by_test false f g = g refl
 
-as_extends : (o : Option Kind) (started : Bool) (s t : List ℕ) → (read_as o started s ≡ Refused CutShort → ⊥) → read_as o started (s ++ t) ≡ read_as o started s
+as_extends : (o : Option Kind) (started : Bool) (s t : List ℕ) → (read_as o started s ≡ Err CutShort → ⊥) → read_as o started (s ++ t) ≡ read_as o started s
 unfolding read_as
 as_extends none started s t n = refl
 as_extends (some k) started s t n =
@@ -120,7 +118,7 @@ as_extends (some k) started s t n =
     (λ e. absurd (n (rw e)))
 
 -- what is not cut short is read the same whatever follows: a cut record alone has to wait for more
-pub read_extends : (s t : List ℕ) (started : Bool) → (read_of s started ≡ Refused CutShort → ⊥) → read_of (s ++ t) started ≡ read_of s started
+pub read_extends : (s t : List ℕ) (started : Bool) → (read_of s started ≡ Err CutShort → ⊥) → read_of (s ++ t) started ≡ read_of s started
 unfolding read_of
 read_extends [] t started n = absurd (n refl)
 read_extends (x ∷ s) t started n = as_extends (kind_of x) started (x ∷ s) t n
@@ -147,7 +145,7 @@ pub kind_octet : (n : ℕ) (k : Kind) → kind_of n ≡ some k → octet_of k �
 kind_octet n k e = omega (arith, numbered_at 0 kinds refl n k e)
 
 -- the first octet is the number of the kind that is read
-pub read_kind : (s : List ℕ) (started : Bool) (r : Record) (used : ℕ) (e : read_of s started ≡ Taken r used) → octet_of (read_says s started r used e).kind ≡ get_or s 0 0
+pub read_kind : (s : List ℕ) (started : Bool) (r : Record) (used : ℕ) (e : read_of s started ≡ Ok (r, used)) → octet_of (read_says s started r used e).kind ≡ get_or s 0 0
 read_kind s started r used e = let y = read_says s started r used e in kind_octet (get_or s 0 0) y.kind y.said
 
 -- a kind's records come when the kind does
@@ -163,12 +161,12 @@ kind_turn start vs = refl
 kind_turn arrival vs = refl
 kind_turn clear vs = refl
 
-pub read_in_turn : (s : List ℕ) (started : Bool) (r : Record) (used : ℕ) → read_of s started ≡ Taken r used → comes (turn_in r) started ≡ true
+pub read_in_turn : (s : List ℕ) (started : Bool) (r : Record) (used : ℕ) → read_of s started ≡ Ok (r, used) → comes (turn_in r) started ≡ true
 read_in_turn s started r used e =
     let y = read_says s started r used e in
     ap (λ (t : Turn). comes t started) (ap turn_in (sym y.is) ∙ kind_turn y.kind _) ∙ y.in_turn
 
-pub read_setup : (s : List ℕ) (started : Bool) (r : Record) (used : ℕ) → read_of s started ≡ Taken r used → Setup r → started ≡ false
+pub read_setup : (s : List ℕ) (started : Bool) (r : Record) (used : ℕ) → read_of s started ≡ Ok (r, used) → Setup r → started ≡ false
 read_setup s started r used e h = not-true started (ap (λ (t : Turn). comes t started) (sym h) ∙ read_in_turn s started r used e)
 
 turned : (t : Turn) → comes t false ≡ true → comes t true ≡ false
@@ -176,7 +174,7 @@ turned before e = refl
 turned after e = sym e
 
 -- what is read before a start is out of turn after it
-pub read_late : (s : List ℕ) (r : Record) (used : ℕ) → read_of s false ≡ Taken r used → read_of s true ≡ Refused OutOfTurn
+pub read_late : (s : List ℕ) (r : Record) (used : ℕ) → read_of s false ≡ Ok (r, used) → read_of s true ≡ Err OutOfTurn
 read_late s r used e =
     let y = read_says s false r used e in
     let some-octet = length_positive y.kind in
@@ -212,7 +210,7 @@ front [] n h = absurd (omega arith)
 front (x ∷ s) n h = rw (take-add 1 n (x ∷ s))
 
 -- the octet of the kind, then its fields' values as they were read
-pub read_encodes : (s : List ℕ) (started : Bool) (r : Record) (used : ℕ) → Octets s → (e : read_of s started ≡ Taken r used)
+pub read_encodes : (s : List ℕ) (started : Bool) (r : Record) (used : ℕ) → Octets s → (e : read_of s started ≡ Ok (r, used))
     → let k = (read_says s started r used e).kind in
     let vs = values_at s 1 (fields_of k) in
     (octet_of k ∷ encoded_of (fields_of k) vs ≡ take used s) × (record_of k vs ≡ r)

@@ -5,7 +5,6 @@ use Rattle.sizes.specs.Meaning.{last_filter, last_port, last_gate, last_meter, l
 use Rattle.logic.specs.Laws.{both, either}
 use Rattle.record.specs.declared.Record.{Record}
 use Rattle.record.specs.declared.Record.TheVariants.{Port, Filter, Gate, GateEntry, Meter, Group, Scheduler, Start, Arrival, Clear}
-use Rattle.record.specs.declared.Reading.TheVariants.{Taken}
 use Rattle.record.specs.Meaning.{Kind, port, filter, gate, gate_entry, meter, group, scheduler, start, arrival, clear, Range, any, upto, between, upto_or_255, Field, within, all_within, kind_row, fields_of, fields_in_range, values_at, record_of, record_length, read_of}
 use Rattle.record.proofs.Laws.{read_says}
 
@@ -103,7 +102,7 @@ kind_ranges k s e = by_kind k (all_within_lem ((kind_row k).agree (values_at s 1
     by_kind arrival h = omega arith
     by_kind clear h = let i = id_fits_lem _ _ h.0 in (refl, h.1.0.0, h.1.0.1, i.0, i.1)
 
-pub read_ranges : (s : List ℕ) (started : Bool) (r : Record) (used : ℕ) → read_of s started ≡ Taken r used → Ranged r used
+pub read_ranges : (s : List ℕ) (started : Bool) (r : Record) (used : ℕ) → read_of s started ≡ Ok (r, used) → Ranged r used
 read_ranges s started r used e =
     let y = read_says s started r used e in
     subst (λ (q : Record). Ranged q used) y.is (subst (Ranged (record_of y.kind (values_at s 1 (fields_of y.kind)))) y.uses (kind_ranges y.kind s y.in_range))

@@ -1,6 +1,6 @@
 -- The ten kinds of record, as the table of document 01 (Records) has them: the one definition of each kind's octet, turn, fields, widths and
 -- ranges. A body's length, its decoding, its encoding, the test of its turn and that of its ranges all follow from it.
-use Rattle.std.specs.Prelude.{ℕ, zero, suc, ◌+◌, ◌*◌, ◌/◌, ◌%◌, ◌-◌, Bool, true, ◌&&◌, ◌||◌, not, false, cond, List, [], ◌∷◌, ◌++◌, leb, eqb, get_or, length, take, drop}
+use Rattle.std.specs.Prelude.{ℕ, zero, suc, ◌+◌, ◌*◌, ◌/◌, ◌%◌, ◌-◌, Bool, true, ◌&&◌, ◌||◌, not, false, cond, List, [], ◌∷◌, ◌++◌, leb, eqb, get_or, length, take, drop, Result, Ok, Err}
 use Rattle.std.proofs.Math.Option.{Option, none, some}
 use Rattle.sizes.specs.Meaning.{last_filter, last_port, last_gate, last_meter, last_group, last_scheduler}
 use Rattle.record.specs.declared.ClearRecord.{ClearRecord}
@@ -11,21 +11,10 @@ use Rattle.record.specs.declared.Record.{Record}
 use Rattle.record.specs.declared.Record.TheVariants.{Port, Filter, Gate, GateEntry, Meter, Group, Scheduler, Start, Arrival, Clear}
 use Rattle.record.specs.declared.Refusal.{Refusal}
 use Rattle.record.specs.declared.Refusal.TheVariants.{CutShort, UnknownKind, OutOfRange, OutOfTurn, SetUpAlready, NinthEntry, Missing, BurstTooSmall, TimeGoesBack, NotSetUp, TableLength}
-use Rattle.record.specs.declared.Reading.{Reading}
-use Rattle.record.specs.declared.Reading.TheVariants.{Refused, Taken}
 use Rattle.std.specs.Borrow.{Bor}
-
-pub data Kind : Type 0 where
-  port : Kind
-  filter : Kind
-  gate : Kind
-  gate_entry : Kind
-  meter : Kind
-  group : Kind
-  scheduler : Kind
-  start : Kind
-  arrival : Kind
-  clear : Kind
+-- the kinds, by names that no record has
+pub use Rattle.record.specs.declared.Kind.{Kind}
+pub use Rattle.record.specs.declared.Kind.TheVariants.{Port as port, Filter as filter, Gate as gate, GateEntry as gate_entry, Meter as meter, Group as group, Scheduler as scheduler, Start as start, Arrival as arrival, Clear as clear}
 
 -- the kinds by number, from 0 on
 abbrev pub kinds : List (Option Kind)
@@ -34,6 +23,14 @@ kinds = none ∷ some port ∷ some filter ∷ some gate ∷ some gate_entry ∷
 -- the kind that an octet says; 0 and all above 10 say none
 abbrev pub kind_of : ℕ → Option Kind
 kind_of n = get_or kinds n none
+
+-- the kind that is said, or that it is none
+abbrev pub known_as : Option Kind → Result Kind Refusal
+known_as none = Err UnknownKind
+known_as (some k) = Ok k
+
+abbrev pub kind_said : ℕ → Result Kind Refusal
+kind_said n = known_as (kind_of n)
 
 -- ---- fields
 
@@ -269,19 +266,23 @@ comes after started = started
 abbrev pub in_turn_of : Kind → Bool → Bool
 in_turn_of k started = comes (turn_of k) started
 
+-- what reading gives: the record and how many octets it uses, its kind included; or why it is refused
+abbrev pub Reading : Type 0
+Reading = Result (Record × ℕ) Refusal
+
 -- a record of this kind that is whole and in its turn; `vs` are the values of its fields
 abbrev pub ranged_of : Kind → List ℕ → Reading
-ranged_of k vs = cond (fields_in_range k vs) (Taken (record_of k vs) (record_length k)) (Refused OutOfRange)
+ranged_of k vs = cond (fields_in_range k vs) (Ok (record_of k vs, record_length k)) (Err OutOfRange)
 
 abbrev pub whole_of : Kind → List ℕ → Reading
 whole_of k s = ranged_of k (values_at s 1 (fields_of k))
 
 unfoldable pub read_as : Option Kind → Bool → List ℕ → Reading
-read_as none started s = Refused UnknownKind
-read_as (some k) started s = cond (leb (record_length k) (length s)) (cond (in_turn_of k started) (whole_of k s) (Refused OutOfTurn)) (Refused CutShort)
+read_as none started s = Err UnknownKind
+read_as (some k) started s = cond (leb (record_length k) (length s)) (cond (in_turn_of k started) (whole_of k s) (Err OutOfTurn)) (Err CutShort)
 
 unfoldable pub read_of : List ℕ → Bool → Reading
-read_of [] started = Refused CutShort
+read_of [] started = Err CutShort
 read_of (n ∷ s) started = read_as (kind_of n) started (n ∷ s)
 
 -- ---- the same by what the kind's octet says, for a body that is at hand
@@ -297,7 +298,7 @@ in_turn_in none started = false
 in_turn_in (some k) started = in_turn_of k started
 
 abbrev pub whole_in : Option Kind → List ℕ → Reading
-whole_in none s = Refused UnknownKind
+whole_in none s = Err UnknownKind
 whole_in (some k) s = whole_of k s
 
 -- octets that are lent: the block they lie in, the place of the first, and what they are. Two views are equal only where they show the very

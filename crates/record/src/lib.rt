@@ -2,8 +2,9 @@
 // specs/Meaning.antt has the table of kinds and fields that all of this follows, what reading means, and what is shown of a record.
 #![tactic(auto)]
 
-ghost use Rattle.std.specs.Prelude.{cond, ◌≡◌, ℕ, ◌+◌, ◌≤◌, ◌<◌, length};
-ghost use Rattle.record.specs.Meaning.{kind_of, number_at, port, filter, gate, gate_entry, meter, group, scheduler, start, arrival, clear, refusal_number_of, whole_of, read_of, length_in, in_turn_in, whole_in, view_of, body_of};
+ghost use Rattle.std.specs.Prelude.{◌≡◌, ◌+◌, ◌≤◌, length, option_map};
+ghost use Rattle.record.specs.Meaning.{kind_said, number_at, port, filter, gate, gate_entry, meter, group, scheduler, start, arrival, clear, refusal_number_of, record_length, in_turn_of, read_of, view_of, body_of};
+ghost use Rattle.record.specs.Steps.{ranged_in};
 
 use bucket::{Octets, Rate};
 
@@ -134,34 +135,112 @@ pub enum Refusal {
     TableLength,
 }
 
-// What reading gives: a refusal, or the record and how many octets it uses, its kind included.
+// 01, Records: the kinds, each said by its octet.
 #[derive(Clone, Copy)]
-pub enum Reading {
-    Refused(Refusal),
-    Taken(Record, usize),
+pub enum Kind {
+    Port,
+    Filter,
+    Gate,
+    GateEntry,
+    Meter,
+    Group,
+    Scheduler,
+    Start,
+    Arrival,
+    Clear,
 }
 
-// The first record of the input. Octets after it are not looked at.
+// Ruled out: a kind above 10 that is taken; two kinds the other way round.
+impl TryFrom<u8> for Kind {
+    type Error = Refusal;
+
+    ghost try_from_gives = { λ octet r. r ≡ kind_said octet };
+
+    fn try_from(octet: u8) -> Result<Kind, Refusal> {
+        match octet {
+            1 => Ok(Kind::Port),
+            2 => Ok(Kind::Filter),
+            3 => Ok(Kind::Gate),
+            4 => Ok(Kind::GateEntry),
+            5 => Ok(Kind::Meter),
+            6 => Ok(Kind::Group),
+            7 => Ok(Kind::Scheduler),
+            8 => Ok(Kind::Start),
+            9 => Ok(Kind::Arrival),
+            10 => Ok(Kind::Clear),
+            _ => Err(Refusal::UnknownKind),
+        }
+    }
+}
+
+impl Kind {
+    // The octets of a record of this kind, the kind included.
+    fn length(self) -> usize
+        ensures { result ≡ record_length self }
+    {
+        match self {
+            Kind::Port => 3,
+            Kind::Filter => 14,
+            Kind::Gate => 14,
+            Kind::GateEntry => 12,
+            Kind::Meter => 30,
+            Kind::Group => 6,
+            Kind::Scheduler => 15,
+            Kind::Start => 2,
+            Kind::Arrival => 18,
+            Kind::Clear => 3,
+        }
+    }
+
+    // 01, Records: kinds 1 to 8 before a start is taken, 9 and 10 after it.
+    fn in_turn(self, started: bool) -> bool
+        ensures { result ≡ in_turn_of self started }
+    {
+        match self {
+            Kind::Arrival | Kind::Clear => started,
+            _ => !started,
+        }
+    }
+}
+
+// Document 01's number of a refusal.
+// Ruled out: numbers counted from 0; 3 and 4 the other way round, in the order in which they are tried.
+impl From<Refusal> for u8 {
+    ghost from_gives = { λ r n. n ≡ refusal_number_of r };
+
+    fn from(r: Refusal) -> u8 {
+        match r {
+            Refusal::CutShort => 1,
+            Refusal::UnknownKind => 2,
+            Refusal::OutOfRange => 3,
+            Refusal::OutOfTurn => 4,
+            Refusal::SetUpAlready => 5,
+            Refusal::NinthEntry => 6,
+            Refusal::Missing => 7,
+            Refusal::BurstTooSmall => 8,
+            Refusal::TimeGoesBack => 9,
+            Refusal::NotSetUp => 10,
+            Refusal::TableLength => 11,
+        }
+    }
+}
+
+// The first record of the input, and how many octets it uses, its kind included. Octets after it are not looked at.
 // Ruled out: a kind above 10 that is taken; a record out of its turn whose field out of range is named instead.
-pub fn read(input: &[u8], started: bool) -> Reading
+pub fn read(input: &[u8], started: bool) -> Result<(Record, usize), Refusal>
     ensures { result ≡ read_of input.now started }
 {
-    if input.len() == 0 {
-        return Reading::Refused(Refusal::CutShort);
+    let octet = input.first().ok_or(Refusal::CutShort)?;
+    let kind = Kind::try_from(*octet)?;
+    let used = kind.length();
+    if input.len() < used {
+        return Err(Refusal::CutShort);
     }
-    let kind = input[0];
-    let needed = record_length(kind);
-    if needed == 0 {
-        return Reading::Refused(Refusal::UnknownKind);
+    if !kind.in_turn(started) {
+        return Err(Refusal::OutOfTurn);
     }
-    if input.len() < needed {
-        return Reading::Refused(Refusal::CutShort);
-    }
-    if in_turn(kind, started) {
-        read_whole(kind, input)
-    } else {
-        Reading::Refused(Refusal::OutOfTurn)
-    }
+    let r = Record::read(kind, input).ok_or(Refusal::OutOfRange)?;
+    Ok((r, used))
 }
 
 // The body of the record at the front of the input that uses so many octets, as the very part of the input that follows its kind. Every
@@ -179,344 +258,249 @@ pub fn body(input: &[u8], used: usize) -> &[u8]
     &input[1..used]
 }
 
-// Document 01's number of a refusal.
-// Ruled out: numbers counted from 0; 3 and 4 the other way round, in the order in which they are tried.
-pub fn number(r: Refusal) -> u8
-    ensures { result ≡ refusal_number_of r }
-{
-    match r {
-        Refusal::CutShort => 1,
-        Refusal::UnknownKind => 2,
-        Refusal::OutOfRange => 3,
-        Refusal::OutOfTurn => 4,
-        Refusal::SetUpAlready => 5,
-        Refusal::NinthEntry => 6,
-        Refusal::Missing => 7,
-        Refusal::BurstTooSmall => 8,
-        Refusal::TimeGoesBack => 9,
-        Refusal::NotSetUp => 10,
-        Refusal::TableLength => 11,
+impl Record {
+    // A record whose octets are all there, if its fields are in range.
+    fn read(kind: Kind, s: &[u8]) -> Option<Record>
+        requires { record_length kind ≤ length s.now }
+        ensures { result ≡ ranged_in kind s.now }
+    {
+        Some(match kind {
+            Kind::Port => Record::Port(PortRecord::read(s)?),
+            Kind::Filter => Record::Filter(FilterRecord::read(s)?),
+            Kind::Gate => Record::Gate(GateRecord::read(s)?),
+            Kind::GateEntry => Record::GateEntry(GateEntryRecord::read(s)?),
+            Kind::Meter => Record::Meter(MeterRecord::read(s)?),
+            Kind::Group => Record::Group(GroupRecord::read(s)?),
+            Kind::Scheduler => Record::Scheduler(SchedulerRecord::read(s)?),
+            Kind::Start => Record::Start(StartRecord::read(s)?),
+            Kind::Arrival => Record::Arrival(ArrivalRecord::read(s)?),
+            Kind::Clear => Record::Clear(ClearRecord::read(s)?),
+        })
     }
 }
 
-// The octets of a record of this kind, or 0 where there is no such kind.
-fn record_length(kind: u8) -> usize
-    ensures { result ≡ length_in (kind_of kind) }
-{
-    match kind {
-        1 => 3,
-        2 => 14,
-        3 => 14,
-        4 => 12,
-        5 => 30,
-        6 => 6,
-        7 => 15,
-        8 => 2,
-        9 => 18,
-        10 => 3,
-        _ => 0,
+impl PortRecord {
+    fn read(s: &[u8]) -> Option<PortRecord>
+        requires { 3 ≤ length s.now }
+        ensures { option_map Record.Port result ≡ ranged_in port s.now }
+    {
+        let r = PortRecord {
+            port: s[1],
+            overhead: s[2],
+        };
+        let fits = (r.port <= sizes::LAST_PORT) & (r.overhead <= 64);
+        fits.then_some(r)
     }
 }
 
-// 01, Records: kinds 1 to 8 before a start is taken, 9 and 10 after it.
-fn in_turn(kind: u8, started: bool) -> bool
-    ensures { result ≡ in_turn_in (kind_of kind) started }
-{
-    match kind {
-        1..=8 => !started,
-        9 | 10 => started,
-        _ => false,
+impl FilterRecord {
+    fn read(s: &[u8]) -> Option<FilterRecord>
+        requires { 14 ≤ length s.now }
+        ensures { option_map Record.Filter result ≡ ranged_in filter s.now }
+    {
+        let r = FilterRecord {
+            id: s[1],
+            any_handle: s[2],
+            handle: read_u32(s, 3),
+            priority: s[7],
+            gate: s[8],
+            max_sdu: read_u16(s, 9),
+            oversize_block: s[11],
+            meter: s[12],
+            scheduler: s[13],
+        };
+        // A filter for any handle has handle 0.
+        let fits = ((r.any_handle != 1) | (r.handle == 0))
+            & (r.id <= sizes::LAST_FILTER)
+            & (r.any_handle <= 1)
+            & (r.priority <= 8)
+            & (r.gate <= sizes::LAST_GATE)
+            & (r.max_sdu <= 2000)
+            & (r.oversize_block <= 1)
+            & ((r.meter <= sizes::LAST_METER) | (r.meter == 255))
+            & ((r.scheduler <= sizes::LAST_SCHEDULER) | (r.scheduler == 255));
+        fits.then_some(r)
     }
 }
 
-// A record whose octets are all there.
-fn read_whole(kind: u8, s: &[u8]) -> Reading
-    requires { length_in (kind_of kind) ≤ length s.now }
-    ensures { result ≡ whole_in (kind_of kind) s.now }
-{
-    match kind {
-        1 => read_port(s),
-        2 => read_filter(s),
-        3 => read_gate(s),
-        4 => read_gate_entry(s),
-        5 => read_meter(s),
-        6 => read_group(s),
-        7 => read_scheduler(s),
-        8 => read_start(s),
-        9 => read_arrival(s),
-        10 => read_clear(s),
-        _ => Reading::Refused(Refusal::UnknownKind),
+impl GateRecord {
+    fn read(s: &[u8]) -> Option<GateRecord>
+        requires { 14 ≤ length s.now }
+        ensures { option_map Record.Gate result ≡ ranged_in gate s.now }
+    {
+        let r = GateRecord {
+            id: s[1],
+            state: s[2],
+            ipv: s[3],
+            invalid_receive_block: s[4],
+            octets_block: s[5],
+            base_time: read_u64(s, 6),
+        };
+        let fits = (r.id <= sizes::LAST_GATE)
+            & (r.state <= 1)
+            & (r.ipv <= 8)
+            & (r.invalid_receive_block <= 1)
+            & (r.octets_block <= 1)
+            & (r.base_time <= 4_611_686_018_427_387_904);
+        fits.then_some(r)
     }
 }
 
-// The record, if its fields are in range.
-fn take_ranged(fits: bool, r: Record, used: usize) -> Reading
-    ensures { result ≡ cond fits (Reading.Taken r used) (Reading.Refused Refusal.OutOfRange) }
-{
-    if fits {
-        Reading::Taken(r, used)
-    } else {
-        Reading::Refused(Refusal::OutOfRange)
+impl GateEntryRecord {
+    fn read(s: &[u8]) -> Option<GateEntryRecord>
+        requires { 12 ≤ length s.now }
+        ensures { option_map Record.GateEntry result ≡ ranged_in gate_entry s.now }
+    {
+        let r = GateEntryRecord {
+            gate: s[1],
+            state: s[2],
+            ipv: s[3],
+            interval: read_u32(s, 4),
+            octet_maximum: read_u32(s, 8),
+        };
+        let fits = (r.gate <= sizes::LAST_GATE)
+            & (r.state <= 1)
+            & (r.ipv <= 8)
+            & (1 <= r.interval)
+            & (r.interval <= 1_000_000_000);
+        fits.then_some(r)
     }
 }
 
-fn read_port(s: &[u8]) -> Reading
-    requires { 3 ≤ length s.now }
-    ensures { result ≡ whole_of port s.now }
-{
-    let port = s[1];
-    let overhead = s[2];
-    let fits = (port <= sizes::LAST_PORT) & (overhead <= 64);
-    let r = PortRecord {
-        port: port,
-        overhead: overhead,
-    };
-    take_ranged(fits, Record::Port(r), 3)
+impl MeterRecord {
+    fn read(s: &[u8]) -> Option<MeterRecord>
+        requires { 30 ≤ length s.now }
+        ensures { option_map Record.Meter result ≡ ranged_in meter s.now }
+    {
+        let r = MeterRecord {
+            id: s[1],
+            cir: Rate(read_u64(s, 2)),
+            cbs: Octets(read_u32(s, 10)),
+            eir: Rate(read_u64(s, 14)),
+            ebs: Octets(read_u32(s, 22)),
+            coupling: s[26],
+            colour_aware: s[27],
+            drop_on_yellow: s[28],
+            red_block: s[29],
+        };
+        let fits = (r.id <= sizes::LAST_METER)
+            & (r.cir.0 <= 10_000_000_000)
+            & (r.cbs.0 <= 1_000_000)
+            & (r.eir.0 <= 10_000_000_000)
+            & (r.ebs.0 <= 1_000_000)
+            & (r.coupling <= 1)
+            & (r.colour_aware <= 1)
+            & (r.drop_on_yellow <= 1)
+            & (r.red_block <= 1);
+        fits.then_some(r)
+    }
 }
 
-fn read_filter(s: &[u8]) -> Reading
-    requires { 14 ≤ length s.now }
-    ensures { result ≡ whole_of filter s.now }
-{
-    let id = s[1];
-    let any_handle = s[2];
-    let handle = read_w4(s, 3);
-    let priority = s[7];
-    let gate = s[8];
-    let max_sdu = read_w2(s, 9);
-    let oversize_block = s[11];
-    let meter = s[12];
-    let scheduler = s[13];
-    // A filter for any handle has handle 0.
-    let fits = ((any_handle != 1) | (handle == 0))
-        & (id <= sizes::LAST_FILTER)
-        & (any_handle <= 1)
-        & (priority <= 8)
-        & (gate <= sizes::LAST_GATE)
-        & (max_sdu <= 2000)
-        & (oversize_block <= 1)
-        & ((meter <= sizes::LAST_METER) | (meter == 255))
-        & ((scheduler <= sizes::LAST_SCHEDULER) | (scheduler == 255));
-    let r = FilterRecord {
-        id: id,
-        any_handle: any_handle,
-        handle: handle,
-        priority: priority,
-        gate: gate,
-        max_sdu: max_sdu,
-        oversize_block: oversize_block,
-        meter: meter,
-        scheduler: scheduler,
-    };
-    take_ranged(fits, Record::Filter(r), 14)
+impl GroupRecord {
+    fn read(s: &[u8]) -> Option<GroupRecord>
+        requires { 6 ≤ length s.now }
+        ensures { option_map Record.Group result ≡ ranged_in group s.now }
+    {
+        let r = GroupRecord {
+            id: s[1],
+            residence: read_u32(s, 2),
+        };
+        let fits = (r.id <= sizes::LAST_GROUP)
+            & (1 <= r.residence)
+            & (r.residence <= 1_000_000_000);
+        fits.then_some(r)
+    }
 }
 
-fn read_gate(s: &[u8]) -> Reading
-    requires { 14 ≤ length s.now }
-    ensures { result ≡ whole_of gate s.now }
-{
-    let id = s[1];
-    let state = s[2];
-    let ipv = s[3];
-    let invalid_receive_block = s[4];
-    let octets_block = s[5];
-    let base_time = read_w8(s, 6);
-    let fits = (id <= sizes::LAST_GATE)
-        & (state <= 1)
-        & (ipv <= 8)
-        & (invalid_receive_block <= 1)
-        & (octets_block <= 1)
-        & (base_time <= 4_611_686_018_427_387_904);
-    let r = GateRecord {
-        id: id,
-        state: state,
-        ipv: ipv,
-        invalid_receive_block: invalid_receive_block,
-        octets_block: octets_block,
-        base_time: base_time,
-    };
-    take_ranged(fits, Record::Gate(r), 14)
+impl SchedulerRecord {
+    fn read(s: &[u8]) -> Option<SchedulerRecord>
+        requires { 15 ≤ length s.now }
+        ensures { option_map Record.Scheduler result ≡ ranged_in scheduler s.now }
+    {
+        let r = SchedulerRecord {
+            id: s[1],
+            group: s[2],
+            cir: Rate(read_u64(s, 3)),
+            cbs: Octets(read_u32(s, 11)),
+        };
+        let fits = (r.id <= sizes::LAST_SCHEDULER)
+            & (r.group <= sizes::LAST_GROUP)
+            & (1 <= r.cir.0)
+            & (r.cir.0 <= 10_000_000_000)
+            & (1 <= r.cbs.0)
+            & (r.cbs.0 <= 1_000_000);
+        fits.then_some(r)
+    }
 }
 
-fn read_gate_entry(s: &[u8]) -> Reading
-    requires { 12 ≤ length s.now }
-    ensures { result ≡ whole_of gate_entry s.now }
-{
-    let gate = s[1];
-    let state = s[2];
-    let ipv = s[3];
-    let interval = read_w4(s, 4);
-    let octet_maximum = read_w4(s, 8);
-    let fits = (gate <= sizes::LAST_GATE)
-        & (state <= 1)
-        & (ipv <= 8)
-        & (1 <= interval)
-        & (interval <= 1_000_000_000);
-    let r = GateEntryRecord {
-        gate: gate,
-        state: state,
-        ipv: ipv,
-        interval: interval,
-        octet_maximum: octet_maximum,
-    };
-    take_ranged(fits, Record::GateEntry(r), 12)
+impl StartRecord {
+    fn read(s: &[u8]) -> Option<StartRecord>
+        requires { 2 ≤ length s.now }
+        ensures { option_map Record.Start result ≡ ranged_in start s.now }
+    {
+        let r = StartRecord { classes: s[1] };
+        let fits = (1 <= r.classes) & (r.classes <= 8);
+        fits.then_some(r)
+    }
 }
 
-fn read_meter(s: &[u8]) -> Reading
-    requires { 30 ≤ length s.now }
-    ensures { result ≡ whole_of meter s.now }
-{
-    let id = s[1];
-    let cir = read_w8(s, 2);
-    let cbs = read_w4(s, 10);
-    let eir = read_w8(s, 14);
-    let ebs = read_w4(s, 22);
-    let coupling = s[26];
-    let colour_aware = s[27];
-    let drop_on_yellow = s[28];
-    let red_block = s[29];
-    let fits = (id <= sizes::LAST_METER)
-        & (cir <= 10_000_000_000)
-        & (cbs <= 1_000_000)
-        & (eir <= 10_000_000_000)
-        & (ebs <= 1_000_000)
-        & (coupling <= 1)
-        & (colour_aware <= 1)
-        & (drop_on_yellow <= 1)
-        & (red_block <= 1);
-    let r = MeterRecord {
-        id: id,
-        cir: Rate(cir),
-        cbs: Octets(cbs),
-        eir: Rate(eir),
-        ebs: Octets(ebs),
-        coupling: coupling,
-        colour_aware: colour_aware,
-        drop_on_yellow: drop_on_yellow,
-        red_block: red_block,
-    };
-    take_ranged(fits, Record::Meter(r), 30)
+impl ArrivalRecord {
+    fn read(s: &[u8]) -> Option<ArrivalRecord>
+        requires { 18 ≤ length s.now }
+        ensures { option_map Record.Arrival result ≡ ranged_in arrival s.now }
+    {
+        let r = ArrivalRecord {
+            port: s[1],
+            time: read_u64(s, 2),
+            handle: read_u32(s, 10),
+            priority: s[14],
+            drop_eligible: s[15],
+            msdu: read_u16(s, 16),
+        };
+        let fits = (r.port <= sizes::LAST_PORT)
+            & (r.time <= 4_611_686_018_427_387_904)
+            & (r.priority <= 7)
+            & (r.drop_eligible <= 1)
+            & (r.msdu <= 2000);
+        fits.then_some(r)
+    }
 }
 
-fn read_group(s: &[u8]) -> Reading
-    requires { 6 ≤ length s.now }
-    ensures { result ≡ whole_of group s.now }
-{
-    let id = s[1];
-    let residence = read_w4(s, 2);
-    let fits = (id <= sizes::LAST_GROUP) & (1 <= residence) & (residence <= 1_000_000_000);
-    let r = GroupRecord {
-        id: id,
-        residence: residence,
-    };
-    take_ranged(fits, Record::Group(r), 6)
-}
-
-fn read_scheduler(s: &[u8]) -> Reading
-    requires { 15 ≤ length s.now }
-    ensures { result ≡ whole_of scheduler s.now }
-{
-    let id = s[1];
-    let group = s[2];
-    let cir = read_w8(s, 3);
-    let cbs = read_w4(s, 11);
-    let fits = (id <= sizes::LAST_SCHEDULER)
-        & (group <= sizes::LAST_GROUP)
-        & (1 <= cir)
-        & (cir <= 10_000_000_000)
-        & (1 <= cbs)
-        & (cbs <= 1_000_000);
-    let r = SchedulerRecord {
-        id: id,
-        group: group,
-        cir: Rate(cir),
-        cbs: Octets(cbs),
-    };
-    take_ranged(fits, Record::Scheduler(r), 15)
-}
-
-fn read_start(s: &[u8]) -> Reading
-    requires { 2 ≤ length s.now }
-    ensures { result ≡ whole_of start s.now }
-{
-    let classes = s[1];
-    let fits = (1 <= classes) & (classes <= 8);
-    let r = StartRecord { classes: classes };
-    take_ranged(fits, Record::Start(r), 2)
-}
-
-fn read_arrival(s: &[u8]) -> Reading
-    requires { 18 ≤ length s.now }
-    ensures { result ≡ whole_of arrival s.now }
-{
-    let port = s[1];
-    let time = read_w8(s, 2);
-    let handle = read_w4(s, 10);
-    let priority = s[14];
-    let drop_eligible = s[15];
-    let msdu = read_w2(s, 16);
-    let fits = (port <= sizes::LAST_PORT)
-        & (time <= 4_611_686_018_427_387_904)
-        & (priority <= 7)
-        & (drop_eligible <= 1)
-        & (msdu <= 2000);
-    let r = ArrivalRecord {
-        port: port,
-        time: time,
-        handle: handle,
-        priority: priority,
-        drop_eligible: drop_eligible,
-        msdu: msdu,
-    };
-    take_ranged(fits, Record::Arrival(r), 18)
-}
-
-fn read_clear(s: &[u8]) -> Reading
-    requires { 3 ≤ length s.now }
-    ensures { result ≡ whole_of clear s.now }
-{
-    let flag = s[1];
-    let id = s[2];
-    // The id is a filter's for flag 1, and a gate's or a meter's for the others.
-    let fits = ((id <= sizes::LAST_GATE) | ((flag == 1) & (id <= sizes::LAST_FILTER)))
-        & (1 <= flag)
-        & (flag <= 4);
-    let r = ClearRecord { flag: flag, id: id };
-    take_ranged(fits, Record::Clear(r), 3)
+impl ClearRecord {
+    fn read(s: &[u8]) -> Option<ClearRecord>
+        requires { 3 ≤ length s.now }
+        ensures { option_map Record.Clear result ≡ ranged_in clear s.now }
+    {
+        let r = ClearRecord {
+            flag: s[1],
+            id: s[2],
+        };
+        // The id is a filter's for flag 1, and a gate's or a meter's for the others.
+        let fits = ((r.id <= sizes::LAST_GATE) | ((r.flag == 1) & (r.id <= sizes::LAST_FILTER)))
+            & (1 <= r.flag)
+            & (r.flag <= 4);
+        fits.then_some(r)
+    }
 }
 
 // Numbers of two, four and eight octets, the first the most significant.
-fn read_w2(s: &[u8], at: usize) -> u16
+fn read_u16(s: &[u8], at: usize) -> u16
     requires { at + 2 ≤ length s.now }
     ensures { result ≡ number_at s.now at 2 }
 {
-    (wide(s[at]) * 256 + wide(s[at + 1])) as u16
+    u16::from_be_bytes([s[at], s[at + 1]])
 }
 
-fn read_w4(s: &[u8], at: usize) -> u32
+fn read_u32(s: &[u8], at: usize) -> u32
     requires { at + 4 ≤ length s.now }
     ensures { result ≡ number_at s.now at 4 }
 {
-    (((wide(s[at]) * 256 + wide(s[at + 1])) * 256 + wide(s[at + 2])) * 256 + wide(s[at + 3])) as u32
+    u32::from_be_bytes([s[at], s[at + 1], s[at + 2], s[at + 3]])
 }
 
-fn read_w8(s: &[u8], at: usize) -> u64
+fn read_u64(s: &[u8], at: usize) -> u64
     requires { at + 8 ≤ length s.now }
     ensures { result ≡ number_at s.now at 8 }
 {
-    let high = wide_w4(read_w4(s, at));
-    let low = wide_w4(read_w4(s, at + 4));
-    high * 4_294_967_296 + low
-}
-
-fn wide_w4(x: u32) -> u64
-    ensures { (result ≡ x) × (result < 4_294_967_296) }
-{
-    x as u64
-}
-
-fn wide(x: u8) -> u64
-    ensures { (result ≡ x) × (result < 256) }
-{
-    x as u64
+    u64::from_be_bytes([s[at], s[at + 1], s[at + 2], s[at + 3], s[at + 4], s[at + 5], s[at + 6], s[at + 7]])
 }

@@ -7,15 +7,15 @@ use Rattle.bucket.proofs.Laws.{wait_enough}
 use Rattle.bucket.specs.declared.Octets.{Octets}
 use Rattle.scheduler.specs.declared.Scheduler.{Scheduler}
 use Rattle.scheduler.specs.declared.Outcome.TheVariants.{Admitted, Dropped, Refused}
-use Rattle.scheduler.specs.Meaning.{scheduler_step_of, decided, eligible_of}
-use Rattle.scheduler.proofs.Range.{test_of, Ranged}
+use Rattle.scheduler.specs.Meaning.{scheduler_in_range, scheduler_step_of, decided, eligible_of}
+use Rattle.scheduler.proofs.Range.{Ranged}
 
 module _ (s : Scheduler) (group residence arrival : ℕ) (length : Octets) where
-  pub step_refused : test_of s group residence arrival length ≡ false → scheduler_step_of s group residence arrival length ≡ record { scheduler = s; outcome = Refused }
+  pub step_refused : scheduler_in_range s group residence arrival length ≡ false → scheduler_step_of s group residence arrival length ≡ record { scheduler = s; outcome = Refused }
   unfolding scheduler_step_of
   step_refused e = rw e
 
-  module _ (e : test_of s group residence arrival length ≡ true) where
+  module _ (e : scheduler_in_range s group residence arrival length ≡ true) where
     step_decided : scheduler_step_of s group residence arrival length ≡ decided s length.0 (eligible_of s group arrival length.0) (arrival + residence)
     unfolding scheduler_step_of
     step_decided = rw e

@@ -6,8 +6,8 @@ use Rattle.bucket.proofs.Laws.{Above, above_wait, above_taken}
 use Rattle.bucket.specs.declared.Octets.{Octets}
 use Rattle.scheduler.specs.declared.Scheduler.{Scheduler}
 use Rattle.scheduler.specs.declared.Outcome.TheVariants.{Admitted}
-use Rattle.scheduler.specs.Meaning.{scheduler_step_of, spent, eligible_of}
-use Rattle.scheduler.proofs.Range.{test_of, Ranged, ranged, ranged_back}
+use Rattle.scheduler.specs.Meaning.{scheduler_in_range, scheduler_step_of, spent, eligible_of}
+use Rattle.scheduler.proofs.Range.{Ranged, ranged, ranged_back}
 use Rattle.scheduler.proofs.Cases.{step_admitted, enough}
 
 -- s' is s with a burst at least as large: from s's last time on, its bucket never holds less
@@ -64,7 +64,7 @@ ahead_range s s' group group' residence arrival length ahead groups small level 
 
 -- so where the one admits, the other admits too, no later, and stays ahead
 pub larger_burst_step : (s s' : Scheduler) (group group' residence arrival : ℕ) (length : Octets) → Ahead s s' → group' ≤ group → s'.burst.0 ≤ 1_000_000 → s'.level ≤ grains s'.burst.0
-    → test_of s group residence arrival length ≡ true
+    → scheduler_in_range s group residence arrival length ≡ true
     → (let at = eligible_of s group arrival length.0 in let at' = eligible_of s' group' arrival length.0 in at ≤ arrival + residence
     → (scheduler_step_of s group residence arrival length ≡ record { scheduler = spent s length.0 at; outcome = Admitted at })
     × (scheduler_step_of s' group' residence arrival length ≡ record { scheduler = spent s' length.0 at'; outcome = Admitted at' })

@@ -1,7 +1,6 @@
 -- What one step of a scheduler answers (01, Schedulers).
 use Rattle.std.specs.Prelude.{ℕ, ◌+◌, ◌-◌, ◌^◌, max, Bool, cond, ◌&&◌, leb}
 use Rattle.bucket.specs.Meaning.{grains, grown, wait_for}
-use Rattle.bucket.specs.declared.Rate.{Rate}
 use Rattle.bucket.specs.declared.Octets.{Octets}
 use Rattle.scheduler.specs.declared.Scheduler.{Scheduler}
 use Rattle.scheduler.specs.declared.Stepped.{Stepped}
@@ -9,10 +8,13 @@ use Rattle.scheduler.specs.declared.Outcome.{Outcome}
 use Rattle.scheduler.specs.declared.Outcome.TheVariants.{Admitted, Dropped, Refused}
 
 -- the numbers that a step takes; any other is refused
-unfoldable pub scheduler_in_range : Rate → Octets → ℕ → ℕ → ℕ → ℕ → ℕ → Octets → Bool
-scheduler_in_range rate burst level last group residence arrival length =
-    leb burst.0 1_000_000
-    && (leb 1 burst.0 && leb level (grains burst.0) && leb length.0 burst.0 && leb 1 rate.0 && leb rate.0 10_000_000_000 && leb last (2 ^ 62 + 1_000_000_000) && leb group (2 ^ 62 + 1_000_000_000) && leb arrival (2 ^ 62)
+unfoldable pub scheduler_in_range : Scheduler → ℕ → ℕ → ℕ → Octets → Bool
+scheduler_in_range s group residence arrival length =
+    leb s.burst.0 1_000_000
+    && (leb 1 s.burst.0 && leb s.level (grains s.burst.0) && leb length.0 s.burst.0 && leb 1 s.rate.0 && leb s.rate.0 10_000_000_000
+    && leb s.last (2 ^ 62 + 1_000_000_000)
+    && leb group (2 ^ 62 + 1_000_000_000)
+    && leb arrival (2 ^ 62)
     && leb 1 residence
     && leb residence 1_000_000_000)
 
@@ -33,7 +35,7 @@ decided s length at limit =
 
 unfoldable pub scheduler_step_of : Scheduler → ℕ → ℕ → ℕ → Octets → Stepped
 scheduler_step_of s group residence arrival length =
-    cond (scheduler_in_range s.rate s.burst s.level s.last group residence arrival length)
+    cond (scheduler_in_range s group residence arrival length)
     (decided s length.0 (eligible_of s group arrival length.0) (arrival + residence))
     (record { scheduler = s; outcome = Refused })
 

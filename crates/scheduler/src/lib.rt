@@ -1,7 +1,7 @@
 // An ATS scheduler: when a frame becomes eligible, and what its bucket then holds (01, Schedulers).
 #![tactic(auto)]
 
-ghost use Rattle.std.specs.Prelude.{◌≡◌, ℕ, ◌+◌, ◌≤◌, max};
+ghost use Rattle.std.specs.Prelude.{◌≡◌};
 ghost use Rattle.scheduler.specs.declared.Stepped.{Stepped};
 ghost use Rattle.scheduler.specs.Meaning.{scheduler_step_of, scheduler_in_range};
 
@@ -36,105 +36,66 @@ pub struct Stepped {
     pub outcome: Outcome,
 }
 
-// One frame of `length` octets, overhead included, that arrives at `arrival`; `group` is the group's last time, `residence` its limit. The
-// scheduler is lent and stays where it is (01: "lent to the step and updated there"). Where the frame is admitted, the group's last time is
-// the outcome's.
-// Ruled out: a drop or a refusal that changes the scheduler; a wait rounded up and added again and again, so that case D gets 2668.
-pub fn step_in_place(
-    s: &mut Scheduler,
-    group: u64,
-    residence: u64,
-    arrival: u64,
-    length: Octets,
-) -> Outcome
-    ensures { ◌≡◌ {A = Stepped} (record { scheduler = s.new; outcome = result }) (scheduler_step_of s.old group residence arrival length) }
-{
-    let done = step(*s, group, residence, arrival, length);
-    *s = done.scheduler;
-    done.outcome
+// A frame as it is offered to a scheduler, and what its group says then.
+#[derive(Clone, Copy)]
+pub struct Offer {
+    // The group's last time, in ns.
+    pub group: u64,
+    // The group's limit of residence, in ns.
+    pub residence: u64,
+    pub arrival: u64,
+    // Overhead included.
+    pub length: Octets,
 }
 
-// The same for a caller that has the scheduler by value: it is lent to `step_in_place`, and given back beside the outcome.
-// Ruled out: the outcome of another frame; an eligibility time that leaves the group out.
-pub fn offered(s: Scheduler, group: u64, residence: u64, arrival: u64, length: Octets) -> Stepped
-    ensures { result ≡ scheduler_step_of s group residence arrival length }
-{
-    let mut kept = s;
-    let outcome = step_in_place(&mut kept, group, residence, arrival, length);
-    Stepped {
-        scheduler: kept,
-        outcome,
-    }
-}
-
-// The step on a scheduler by value, for the one that is lent.
-#[tactic(auto, using(crate::proofs::Range::ranged, crate::proofs::Cases::step_refused, crate::proofs::Cases::step_dropped, crate::proofs::Cases::enough))]
-fn step(s: Scheduler, group: u64, residence: u64, arrival: u64, length: Octets) -> Stepped
-    ensures { result ≡ scheduler_step_of s group residence arrival length }
-{
-    let r = s.rate;
-    let b = s.burst;
-    let level = s.level;
-    let last = s.last;
-    if !in_range(r, b, level, last, group, residence, arrival, length) {
-        return Stepped {
-            scheduler: s,
-            outcome: Outcome::Refused,
-        };
-    }
-    let need = (length.0 as u64) * bucket::GRAINS;
-    let at = later(arrival, later(group, last + bucket::wait(level, r, need)));
-    if at <= arrival + residence {
-        let left = bucket::grow(level, r, (b.0 as u64) * bucket::GRAINS, at - last) - need;
-        Stepped {
-            scheduler: Scheduler {
-                rate: r,
-                burst: b,
-                level: left,
-                last: at,
-            },
-            outcome: Outcome::Admitted { at },
+impl Scheduler {
+    // One frame. The scheduler is lent and stays where it is (01: "lent to the step and updated there"). Where the frame is admitted, the
+    // group's last time is the outcome's.
+    // Ruled out: a drop or a refusal that changes the scheduler; a wait rounded up and added again and again, so that case D gets 2668.
+    #[tactic(auto, using(crate::proofs::Range::ranged, crate::proofs::Cases::enough), unfolding(crate::specs::Meaning::scheduler_step_of))]
+    pub fn step_in_place(&mut self, o: Offer) -> Outcome
+        ensures { ◌≡◌ {A = Stepped} (record { scheduler = self.new; outcome = result }) (scheduler_step_of self.old o.group o.residence o.arrival o.length) }
+    {
+        if !self.in_range(o) {
+            return Outcome::Refused;
         }
-    } else {
-        Stepped {
-            scheduler: s,
-            outcome: Outcome::Dropped,
+        let need = (o.length.0 as u64) * bucket::GRAINS;
+        let filled = self.last + bucket::wait(self.level, self.rate, need);
+        let at = o.arrival.max(o.group.max(filled));
+        if o.arrival + o.residence < at {
+            return Outcome::Dropped;
         }
+        let full = (self.burst.0 as u64) * bucket::GRAINS;
+        self.level = bucket::grow(self.level, self.rate, full, at - self.last) - need;
+        self.last = at;
+        Outcome::Admitted { at }
     }
-}
 
-fn later(a: u64, b: u64) -> u64
-    ensures { result ≡ max a b }
-{
-    if a < b { b } else { a }
-}
+    // The same for a caller that has the scheduler by value: it is lent to `step_in_place`, and given back beside the outcome.
+    // Ruled out: the outcome of another frame; an eligibility time that leaves the group out.
+    pub fn offered(self, o: Offer) -> Stepped
+        ensures { result ≡ scheduler_step_of self o.group o.residence o.arrival o.length }
+    {
+        let mut scheduler = self;
+        let outcome = scheduler.step_in_place(o);
+        Stepped { scheduler, outcome }
+    }
 
-#[tactic(auto, unfolding(crate::specs::Meaning::scheduler_in_range))]
-fn in_range(
-    rate: Rate,
-    burst: Octets,
-    level: u64,
-    last: u64,
-    group: u64,
-    residence: u64,
-    arrival: u64,
-    length: Octets,
-) -> bool
-    ensures { result ≡ scheduler_in_range rate burst level last group residence arrival length }
-{
-    let octets = burst.0 as u64;
-    if octets <= 1_000_000 {
-        (1 <= octets)
-            & (level <= octets * bucket::GRAINS)
-            & (length.0 as u64 <= octets)
-            & (1 <= rate.0)
-            & (rate.0 <= 10_000_000_000)
-            & (last <= 4_611_686_019_427_387_904)
-            & (group <= 4_611_686_019_427_387_904)
-            & (arrival <= 4_611_686_018_427_387_904)
-            & (1 <= residence)
-            & (residence <= 1_000_000_000)
-    } else {
-        false
+    #[tactic(auto, unfolding(crate::specs::Meaning::scheduler_in_range))]
+    fn in_range(&self, o: Offer) -> bool
+        ensures { result ≡ scheduler_in_range self.now o.group o.residence o.arrival o.length }
+    {
+        let octets = self.burst.0 as u64;
+        octets <= 1_000_000
+            && (1 <= octets)
+                & (self.level <= octets * bucket::GRAINS)
+                & (o.length.0 as u64 <= octets)
+                & (1 <= self.rate.0)
+                & (self.rate.0 <= 10_000_000_000)
+                & (self.last <= 4_611_686_019_427_387_904)
+                & (o.group <= 4_611_686_019_427_387_904)
+                & (o.arrival <= 4_611_686_018_427_387_904)
+                & (1 <= o.residence)
+                & (o.residence <= 1_000_000_000)
     }
 }

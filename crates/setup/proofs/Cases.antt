@@ -10,8 +10,7 @@ use Rattle.record.specs.declared.Refusal.{Refusal}
 use Rattle.record.specs.declared.Refusal.TheVariants.{NinthEntry, NotSetUp}
 use Rattle.bank.specs.Meaning.{Rows, entries, with_entries}
 use Rattle.filter.specs.declared.Filter.{Filter}
-use Rattle.verdict.specs.declared.Verdict.TheVariants.{Refused, Taken}
-use Rattle.verdict.specs.Meaning.{Told, told}
+use Rattle.verdict.specs.Meaning.{Refused, Taken, Told, told}
 use Rattle.setup.specs.Meaning.{refused_if, some_of, listed, entry_kept, entry_place, add_entry_of, clear_oversize_of, clear_invalid_receive_of, clear_octets_of, clear_red_of, clear_of}
 
 module _ (b : Bool) (why : Refusal) (s : Rows) (t : Told) where

@@ -20,10 +20,8 @@ use Rattle.bank.proofs.Rows.{row_other}
 use Rattle.bank.proofs.Store.{load_same, load_apart, get_d_load}
 use Rattle.bank.proofs.Laws.{oversize_same, gate_state_same, meter_state_same}
 use Rattle.filter.specs.declared.Filter.{Filter}
-use Rattle.filter.specs.declared.Found.{Found}
-use Rattle.filter.specs.Meaning.{counts_of}
-use Rattle.verdict.specs.declared.Verdict.TheVariants.{Refused, Taken}
-use Rattle.verdict.specs.Meaning.{Told, told}
+use Rattle.filter.specs.Meaning.{Found, counts_of}
+use Rattle.verdict.specs.Meaning.{Refused, Taken, Told, told}
 use Rattle.setup.specs.Meaning.{Listed, listed, refused_if, set_port_of, set_gate_of, add_entry_of, entry_body_of, entry_place, set_meter_of, set_group_of, set_scheduler_of, start_of, with_flags, red_low, clear_oversize_of, clear_invalid_receive_of, clear_octets_of, clear_red_of, clear_of}
 use Rattle.setup.proofs.Cases.{if_goes_on, refused_by, entry_taken, clear_by_lem}
 

@@ -22,11 +22,8 @@ use Rattle.record.specs.declared.Refusal.{Refusal}
 use Rattle.record.specs.declared.Refusal.TheVariants.{SetUpAlready, NinthEntry, Missing, BurstTooSmall, NotSetUp}
 use Rattle.bank.specs.Meaning.{Rows, store, is_set, component, with_classes, with_overhead, port, with_port, with_oversize, gate, gate_is_set, entries, with_gate, with_entries, with_gate_state, meter, meter_is_set, with_meter, with_meter_state, group, with_group, scheduler_is_set, scheduler_group, with_scheduler}
 use Rattle.filter.specs.declared.Filter.{Filter}
-use Rattle.filter.specs.declared.Found.{Found}
-use Rattle.filter.specs.Meaning.{counts_of, is_found}
-use Rattle.verdict.specs.declared.Verdict.{Verdict}
-use Rattle.verdict.specs.declared.Verdict.TheVariants.{Refused, Taken}
-use Rattle.verdict.specs.Meaning.{Told, told}
+use Rattle.filter.specs.Meaning.{Found, counts_of, is_found}
+use Rattle.verdict.specs.Meaning.{Verdict, Refused, Taken, Told, told}
 
 -- where the test holds, refused with that number, the rows as they were; else what follows
 unfoldable pub refused_if : Bool → Refusal → Rows → Told → Told

@@ -2,39 +2,36 @@
 // kinds 1, 3 to 8 and 10). The meaning of each function is in specs/Meaning.antt; a refusal leaves everything as it was.
 #![tactic(auto)]
 
-ghost use Rattle.std.specs.Prelude.{◌≡◌, ◌+◌, ◌≤◌, max};
+ghost use Rattle.std.specs.Prelude.{◌≡◌, ◌+◌, ◌≤◌};
 ghost use Rattle.sizes.specs.Meaning.{gate_count, scheduler_count, entry_octets, lists_octets};
 ghost use Rattle.bank.specs.Meaning.{rows_of};
-ghost use Rattle.filter.specs.Meaning.{is_found};
-ghost use Rattle.verdict.specs.Meaning.{told};
-ghost use Rattle.setup.specs.Meaning.{set_port_of, set_gate_of, listed, octet_at, entry_kept, add_entry_of, set_meter_of, set_group_of, fresh_scheduler_of, set_scheduler_of, stray_of, groupless_of, some_of, start_of, clear_oversize_of, clear_invalid_receive_of, clear_octets_of, clear_red_of, clear_of};
+ghost use Rattle.verdict.specs.Meaning.{told, set_up};
+ghost use Rattle.setup.specs.Meaning.{set_port_of, set_gate_of, listed, entry_kept, add_entry_of, set_meter_of, set_group_of, fresh_scheduler_of, set_scheduler_of, stray_of, groupless_of, some_of, start_of, clear_of};
 
-use bank::{Group, Lists, Port, Words};
-use bucket::{Octets, Rate};
-use filter::{Filter, Found};
+use bank::{Bank, Group, Lists, Port};
+use filter::Filter;
+use gate::Gate;
 use meter::Meter;
 use record::{
     ClearRecord, GateEntryRecord, GateRecord, GroupRecord, MeterRecord, PortRecord, Refusal,
     SchedulerRecord, StartRecord,
 };
 use scheduler::Scheduler;
-use verdict::Verdict;
 
 // Kind 1.
 // Ruled out: a second record for a port that overwrites the first; the largest overhead replaced by a smaller one.
 #[tactic(auto, unfolding(crate::specs::Meaning::set_port_of, crate::specs::Meaning::refused_if))]
-pub fn set_port(bank: &mut Words, r: PortRecord) -> Verdict
-    ensures { told (rows_of bank.new) result ≡ set_port_of (rows_of bank.old) r }
+pub fn set_port(bank: &mut Bank, r: PortRecord) -> Result<(), Refusal>
+    ensures { told (rows_of bank.new) (set_up result) ≡ set_port_of (rows_of bank.old) r }
 {
     let i = r.port as usize;
-    let old = bank::port_at(bank, i);
+    let old = bank.port_at(i);
     if old.set {
-        return Verdict::Refused(Refusal::SetUpAlready);
+        return Err(Refusal::SetUpAlready);
     }
-    let component = bank::component_at(bank);
-    bank::put_overhead(bank, larger(component.overhead, r.overhead as u64));
-    bank::put_port(
-        bank,
+    let component = bank.component_at();
+    bank.put_overhead(component.overhead.max(r.overhead as u64));
+    bank.put_port(
         i,
         Port {
             set: true,
@@ -42,21 +39,20 @@ pub fn set_port(bank: &mut Words, r: PortRecord) -> Verdict
             discarded: old.discarded,
         },
     );
-    Verdict::Taken
+    Ok(())
 }
 
 // Kind 3.
 // Ruled out: a second record for a gate taken; a closed gate set up open because octets block is set.
 #[tactic(auto, unfolding(crate::specs::Meaning::set_gate_of, crate::specs::Meaning::refused_if))]
-pub fn set_gate(bank: &mut Words, r: GateRecord) -> Verdict
-    ensures { told (rows_of bank.new) result ≡ set_gate_of (rows_of bank.old) r }
+pub fn set_gate(bank: &mut Bank, r: GateRecord) -> Result<(), Refusal>
+    ensures { told (rows_of bank.new) (set_up result) ≡ set_gate_of (rows_of bank.old) r }
 {
     let i = r.id as usize;
-    if bank::gate_set(bank, i) {
-        return Verdict::Refused(Refusal::SetUpAlready);
+    if bank.gate_set(i) {
+        return Err(Refusal::SetUpAlready);
     }
-    bank::set_up_gate(
-        bank,
+    bank.set_up_gate(
         i,
         r.state != 0,
         r.ipv,
@@ -64,71 +60,80 @@ pub fn set_gate(bank: &mut Words, r: GateRecord) -> Verdict
         r.octets_block != 0,
         r.base_time,
     );
-    Verdict::Taken
+    Ok(())
 }
 
 // Kind 4: `body` is that of the record `r`, as `record::body` shows it. It is kept in the gate's list as it came.
 // Ruled out: a ninth entry taken; an entry kept in the list of another gate.
 #[tactic(auto, unfolding(crate::specs::Meaning::add_entry_of))]
-pub fn add_entry(bank: &mut Words, lists: &mut Lists, body: &[u8], r: GateEntryRecord) -> Verdict
-    ensures { listed (rows_of bank.new) lists.new result ≡ add_entry_of (rows_of bank.old) lists.old body.now r }
+pub fn add_entry(
+    bank: &mut Bank,
+    lists: &mut Lists,
+    body: &[u8],
+    r: GateEntryRecord,
+) -> Result<(), Refusal>
+    ensures { listed (rows_of bank.new) lists.new (set_up result) ≡ add_entry_of (rows_of bank.old) lists.old body.now r }
 {
     let i = r.gate as usize;
-    let n = bank::entries_at(bank, i);
+    let n = bank.entries_at(i);
     if n < sizes::ENTRIES {
         keep(
             lists,
             i % sizes::GATES * sizes::LIST + n * sizes::ENTRY,
             body,
         );
-        bank::put_entries(bank, i, n + 1);
-        Verdict::Taken
+        bank.put_entries(i, n + 1);
+        Ok(())
     } else {
-        Verdict::Refused(Refusal::NinthEntry)
+        Err(Refusal::NinthEntry)
+    }
+}
+
+// The octets of a body, kept at `at`; 0 for one past its end.
+fn keep(lists: &mut Lists, at: usize, body: &[u8])
+    requires { at + entry_octets ≤ lists_octets }
+    ensures { lists.new ≡ entry_kept lists.old at body.now }
+{
+    for k in 0..sizes::ENTRY {
+        lists[at + k] = body.get(k).copied().unwrap_or(0);
     }
 }
 
 // Kind 5.
 // Ruled out: a second record that fills the buckets again; drop on yellow taken for the red block.
 #[tactic(auto, unfolding(crate::specs::Meaning::set_meter_of, crate::specs::Meaning::refused_if))]
-pub fn set_meter(bank: &mut Words, r: MeterRecord) -> Verdict
-    ensures { told (rows_of bank.new) result ≡ set_meter_of (rows_of bank.old) r }
+pub fn set_meter(bank: &mut Bank, r: MeterRecord) -> Result<(), Refusal>
+    ensures { told (rows_of bank.new) (set_up result) ≡ set_meter_of (rows_of bank.old) r }
 {
     let i = r.id as usize;
-    if bank::meter_set(bank, i) {
-        return Verdict::Refused(Refusal::SetUpAlready);
+    if bank.meter_set(i) {
+        return Err(Refusal::SetUpAlready);
     }
-    let cir = r.cir;
-    let cbs = r.cbs;
-    let eir = r.eir;
-    let ebs = r.ebs;
     let m = Meter::fresh(
-        cir,
-        cbs,
-        eir,
-        ebs,
+        r.cir,
+        r.cbs,
+        r.eir,
+        r.ebs,
         r.coupling != 0,
         r.colour_aware != 0,
         r.drop_on_yellow != 0,
         r.red_block != 0,
     );
-    bank::set_up_meter(bank, i, m);
-    Verdict::Taken
+    bank.set_up_meter(i, m);
+    Ok(())
 }
 
 // Kind 6.
 // Ruled out: a second record for a group taken; a group whose last time is its residence.
 #[tactic(auto, unfolding(crate::specs::Meaning::set_group_of, crate::specs::Meaning::refused_if))]
-pub fn set_group(bank: &mut Words, r: GroupRecord) -> Verdict
-    ensures { told (rows_of bank.new) result ≡ set_group_of (rows_of bank.old) r }
+pub fn set_group(bank: &mut Bank, r: GroupRecord) -> Result<(), Refusal>
+    ensures { told (rows_of bank.new) (set_up result) ≡ set_group_of (rows_of bank.old) r }
 {
     let i = r.id as usize;
-    let old = bank::group_at(bank, i);
-    if old.set {
-        return Verdict::Refused(Refusal::SetUpAlready);
+    if bank.group_at(i).set {
+        return Err(Refusal::SetUpAlready);
     }
-    bank::put_group(
-        bank,
+    bank.put_group(
         i,
         Group {
             set: true,
@@ -136,198 +141,105 @@ pub fn set_group(bank: &mut Words, r: GroupRecord) -> Verdict
             last: 0,
         },
     );
-    Verdict::Taken
+    Ok(())
 }
 
-// Kind 7.
+// Kind 7. The scheduler's bucket is full.
 // Ruled out: a bucket that starts empty; a scheduler put into the group of its own number.
 #[tactic(auto, unfolding(crate::specs::Meaning::set_scheduler_of, crate::specs::Meaning::refused_if))]
-pub fn set_scheduler(bank: &mut Words, r: SchedulerRecord) -> Verdict
-    ensures { told (rows_of bank.new) result ≡ set_scheduler_of (rows_of bank.old) r }
+pub fn set_scheduler(bank: &mut Bank, r: SchedulerRecord) -> Result<(), Refusal>
+    ensures { told (rows_of bank.new) (set_up result) ≡ set_scheduler_of (rows_of bank.old) r }
 {
     let i = r.id as usize;
-    if bank::scheduler_set(bank, i) {
-        return Verdict::Refused(Refusal::SetUpAlready);
+    if bank.scheduler_set(i) {
+        return Err(Refusal::SetUpAlready);
     }
-    let cir = r.cir;
-    let cbs = r.cbs;
-    bank::set_up_scheduler(bank, i, r.group as usize, fresh(cir, cbs));
-    Verdict::Taken
+    let fresh = Scheduler {
+        rate: r.cir,
+        burst: r.cbs,
+        level: bucket::full(r.cbs),
+        last: 0,
+    };
+    bank.set_up_scheduler(i, r.group as usize, fresh);
+    Ok(())
 }
 
 // Kind 8. `missing` is the first filter that names what is missing, `exceeding` the first that exceeds its scheduler's burst.
 // Ruled out: 8 given where something is missing, too; a refused start after which the bridge has started.
 #[tactic(auto, unfolding(crate::specs::Meaning::start_of, crate::specs::Meaning::refused_if))]
-pub fn start(bank: &mut Words, r: StartRecord, missing: Found, exceeding: Found) -> Verdict
-    ensures { told (rows_of bank.new) result ≡ start_of (rows_of bank.old) r missing exceeding }
+pub fn start(
+    bank: &mut Bank,
+    r: StartRecord,
+    missing: Option<(usize, Filter)>,
+    exceeding: Option<(usize, Filter)>,
+) -> Result<(), Refusal>
+    ensures { told (rows_of bank.new) (set_up result) ≡ start_of (rows_of bank.old) r missing exceeding }
 {
-    if is_found(missing) | some_stray(bank) | some_groupless(bank) {
-        return Verdict::Refused(Refusal::Missing);
+    if missing.is_some() || some_stray(bank) || some_groupless(bank) {
+        return Err(Refusal::Missing);
     }
-    if is_found(exceeding) {
-        return Verdict::Refused(Refusal::BurstTooSmall);
+    if exceeding.is_some() {
+        return Err(Refusal::BurstTooSmall);
     }
-    bank::put_classes(bank, r.classes as u64);
-    Verdict::Taken
+    bank.put_classes(r.classes as u64);
+    Ok(())
+}
+
+// Whether the gate of some entry is missing.
+fn some_stray(bank: &Bank) -> bool
+    ensures { result ≡ some_of (stray_of (rows_of bank.now)) gate_count }
+{
+    (0..sizes::GATES).any(|i| !bank.gate_set(i) && 0 < bank.entries_at(i))
+}
+
+// Whether the group of some scheduler is missing.
+fn some_groupless(bank: &Bank) -> bool
+    ensures { result ≡ some_of (groupless_of (rows_of bank.now)) scheduler_count }
+{
+    (0..sizes::SCHEDULERS)
+        .any(|i| bank.scheduler_set(i) && !bank.group_at(bank.scheduler_group(i)).set)
 }
 
 // Kind 10. `row` is the row of the filter table at the place that the record names.
 // Ruled out: a clear of one gate flag that takes down the other; a flag cleared at a place that counts as empty.
-#[tactic(auto, unfolding(crate::specs::Meaning::clear_of))]
-pub fn clear(bank: &mut Words, r: ClearRecord, row: Filter) -> Verdict
-    ensures { told (rows_of bank.new) result ≡ clear_of (rows_of bank.old) r row }
+#[tactic(auto, unfolding(crate::specs::Meaning::clear_of, crate::specs::Meaning::clear_oversize_of, crate::specs::Meaning::clear_invalid_receive_of, crate::specs::Meaning::clear_octets_of, crate::specs::Meaning::clear_red_of, crate::specs::Meaning::refused_if))]
+pub fn clear(bank: &mut Bank, r: ClearRecord, row: Filter) -> Result<(), Refusal>
+    ensures { told (rows_of bank.new) (set_up result) ≡ clear_of (rows_of bank.old) r row }
 {
-    let flag = r.flag;
     let i = r.id as usize;
-    match flag {
-        1 => clear_oversize(bank, i, row),
-        2 => clear_invalid_receive(bank, i),
-        3 => clear_octets(bank, i),
-        4 => clear_red(bank, i),
-        _ => Verdict::Refused(Refusal::NotSetUp),
+    match r.flag {
+        1 if row.counts(bank) => bank.put_oversize(i, false),
+        2 if bank.gate_set(i) => {
+            let gate = bank.gate_at(i);
+            bank.put_gate_state(
+                i,
+                Gate {
+                    invalid_receive_flag: false,
+                    ..gate
+                },
+            );
+        }
+        3 if bank.gate_set(i) => {
+            let gate = bank.gate_at(i);
+            bank.put_gate_state(
+                i,
+                Gate {
+                    octets_flag: false,
+                    ..gate
+                },
+            );
+        }
+        4 if bank.meter_set(i) => {
+            let meter = bank.meter_at(i);
+            bank.put_meter_state(
+                i,
+                Meter {
+                    red_flag: false,
+                    ..meter
+                },
+            );
+        }
+        _ => return Err(Refusal::NotSetUp),
     }
-}
-
-#[tactic(auto, unfolding(crate::specs::Meaning::clear_oversize_of, crate::specs::Meaning::refused_if))]
-fn clear_oversize(bank: &mut Words, i: usize, row: Filter) -> Verdict
-    ensures { told (rows_of bank.new) result ≡ clear_oversize_of (rows_of bank.old) i row }
-{
-    if !filter::counts(row, bank) {
-        return Verdict::Refused(Refusal::NotSetUp);
-    }
-    bank::put_oversize(bank, i, false);
-    Verdict::Taken
-}
-
-#[tactic(auto, unfolding(crate::specs::Meaning::clear_invalid_receive_of, crate::specs::Meaning::refused_if))]
-fn clear_invalid_receive(bank: &mut Words, i: usize) -> Verdict
-    ensures { told (rows_of bank.new) result ≡ clear_invalid_receive_of (rows_of bank.old) i }
-{
-    if !bank::gate_set(bank, i) {
-        return Verdict::Refused(Refusal::NotSetUp);
-    }
-    let mut g = bank::gate_at(bank, i);
-    g.invalid_receive_flag = false;
-    bank::put_gate_state(bank, i, g);
-    Verdict::Taken
-}
-
-#[tactic(auto, unfolding(crate::specs::Meaning::clear_octets_of, crate::specs::Meaning::refused_if))]
-fn clear_octets(bank: &mut Words, i: usize) -> Verdict
-    ensures { told (rows_of bank.new) result ≡ clear_octets_of (rows_of bank.old) i }
-{
-    if !bank::gate_set(bank, i) {
-        return Verdict::Refused(Refusal::NotSetUp);
-    }
-    let mut g = bank::gate_at(bank, i);
-    g.octets_flag = false;
-    bank::put_gate_state(bank, i, g);
-    Verdict::Taken
-}
-
-#[tactic(auto, unfolding(crate::specs::Meaning::clear_red_of, crate::specs::Meaning::refused_if))]
-fn clear_red(bank: &mut Words, i: usize) -> Verdict
-    ensures { told (rows_of bank.new) result ≡ clear_red_of (rows_of bank.old) i }
-{
-    if !bank::meter_set(bank, i) {
-        return Verdict::Refused(Refusal::NotSetUp);
-    }
-    let mut m = bank::meter_at(bank, i);
-    m.red_flag = false;
-    bank::put_meter_state(bank, i, m);
-    Verdict::Taken
-}
-
-fn is_found(found: Found) -> bool
-    ensures { result ≡ is_found found }
-{
-    match found {
-        Found::At(_, _) => true,
-        Found::Nothing => false,
-    }
-}
-
-// Whether the gate of some entry is missing.
-fn some_stray(bank: &Words) -> bool
-    ensures { result ≡ some_of (stray_of (rows_of bank.now)) gate_count }
-{
-    let mut found = false;
-    let mut i: usize = 0;
-    while i < sizes::GATES {
-        found = found | stray(bank, i);
-        i += 1;
-    }
-    found
-}
-
-fn stray(bank: &Words, i: usize) -> bool
-    ensures { result ≡ stray_of (rows_of bank.now) i }
-{
-    !bank::gate_set(bank, i) & (0 < bank::entries_at(bank, i))
-}
-
-// Whether the group of some scheduler is missing.
-fn some_groupless(bank: &Words) -> bool
-    ensures { result ≡ some_of (groupless_of (rows_of bank.now)) scheduler_count }
-{
-    let mut found = false;
-    let mut i: usize = 0;
-    while i < sizes::SCHEDULERS {
-        found = found | groupless(bank, i);
-        i += 1;
-    }
-    found
-}
-
-fn groupless(bank: &Words, i: usize) -> bool
-    ensures { result ≡ groupless_of (rows_of bank.now) i }
-{
-    let g = bank::group_at(bank, bank::scheduler_group(bank, i));
-    bank::scheduler_set(bank, i) & !g.set
-}
-
-// The octets of a body, kept at `at`.
-fn keep(lists: &mut Lists, at: usize, body: &[u8])
-    requires { at + entry_octets ≤ lists_octets }
-    ensures { lists.new ≡ entry_kept lists.old at body.now }
-{
-    known(lists);
-    lists[at + 0] = octet(body, 0);
-    lists[at + 1] = octet(body, 1);
-    lists[at + 2] = octet(body, 2);
-    lists[at + 3] = octet(body, 3);
-    lists[at + 4] = octet(body, 4);
-    lists[at + 5] = octet(body, 5);
-    lists[at + 6] = octet(body, 6);
-    lists[at + 7] = octet(body, 7);
-    lists[at + 8] = octet(body, 8);
-    lists[at + 9] = octet(body, 9);
-    lists[at + 10] = octet(body, 10);
-}
-
-// The array lent as a slice: its length is known from here on.
-fn known(_octets: &[u8]) {}
-
-fn octet(body: &[u8], k: usize) -> u8
-    ensures { result ≡ octet_at body.now k }
-{
-    if k < body.len() { body[k] } else { 0 }
-}
-
-// A scheduler whose bucket is full.
-fn fresh(rate: Rate, burst: Octets) -> Scheduler
-    ensures { result ≡ fresh_scheduler_of rate burst }
-{
-    Scheduler {
-        rate,
-        burst,
-        level: bucket::full(burst),
-        last: 0,
-    }
-}
-
-fn larger(a: u64, b: u64) -> u64
-    ensures { result ≡ max a b }
-{
-    if a < b { b } else { a }
+    Ok(())
 }

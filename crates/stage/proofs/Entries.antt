@@ -1,10 +1,9 @@
 -- A gate entry that is taken: the octets that follow its kind, as many as the answer says less one, are what `record::body` shows and what is kept.
-use Rattle.std.specs.Prelude.{ℕ, ◌+◌, ◌<◌, List, ◌≡◌, refl, length, take, drop}
+use Rattle.std.specs.Prelude.{ℕ, ◌+◌, ◌<◌, List, ◌≡◌, refl, length, take, drop, Ok}
 use Rattle.std.proofs.Common.{sym, ap, ◌∙◌, eq-eqb}
 use Rattle.sizes.specs.Meaning.{filter_count, entry_count, entry_octets, lists_octets}
 use Rattle.record.specs.declared.GateEntryRecord.{GateEntryRecord}
 use Rattle.record.specs.declared.Record.TheVariants.{GateEntry}
-use Rattle.record.specs.declared.Reading.TheVariants.{Taken as Read}
 use Rattle.record.specs.Meaning.{body_in, read_of}
 use Rattle.record.proofs.BodyLaws.{read_entry_body}
 use Rattle.bank.specs.Meaning.{load, entries}
@@ -14,7 +13,7 @@ use Rattle.setup.proofs.Laws.{body_whole, entry_body}
 use Rattle.stage.specs.Meaning.{Bridge, Took, lists_took, taken_of, read_by, started_of, take_of}
 
 module _ (b : Bridge) (input : List ℕ) (r : GateEntryRecord) (used : ℕ) (table : length b.table ≡ filter_count) (lists : length b.lists ≡ lists_octets)
-    (read : read_of input (started_of b.bank) ≡ Read (GateEntry r) used) (room : entries b.bank r.gate < entry_count) where
+    (read : read_of input (started_of b.bank) ≡ Ok (GateEntry r, used)) (room : entries b.bank r.gate < entry_count) where
   -- where the next entry of its gate is kept
   abbrev place : ℕ
   place = entry_place r.gate (entries b.bank r.gate)

@@ -1,30 +1,22 @@
 -- One call, one record: what the lent filter table, the bank, the gate lists and the answer are after it.
 -- The sections of document 01 in their order: the records and their refusals, then each kind. What a setup record, a start or a clear does
 -- is in the crate setup, a frame's path in the crate path, reading in the crate record, each in the file of this name.
-use Rattle.std.specs.Prelude.{ℕ, Bool, cond, List, eqb, length, set}
+use Rattle.std.specs.Prelude.{ℕ, Bool, cond, List, eqb, length, set, Ok, Err}
 use Rattle.sizes.specs.Meaning.{filter_count}
 use Rattle.record.specs.declared.Record.{Record}
 use Rattle.record.specs.declared.FilterRecord.{FilterRecord}
 use Rattle.record.specs.declared.ArrivalRecord.{ArrivalRecord}
 use Rattle.record.specs.declared.Refusal.{Refusal}
 use Rattle.record.specs.declared.Refusal.TheVariants.{TableLength, SetUpAlready}
-use Rattle.record.specs.declared.Reading.{Reading}
-use Rattle.record.specs.Meaning.{body_in, read_of}
+use Rattle.record.specs.Meaning.{Reading, body_in, read_of}
 use Rattle.bank.specs.Meaning.{Rows, is_set, component}
 use Rattle.filter.specs.declared.Filter.{Filter}
-use Rattle.filter.specs.declared.Asks.{Asks}
-use Rattle.filter.specs.declared.Asks.TheVariants.{Fits, Missing, ExceedsBurst}
 use Rattle.filter.specs.declared.Key.{Key}
-use Rattle.filter.specs.declared.Found.{Found}
-use Rattle.filter.specs.Meaning.{is_filter_of, row_of, search_of}
-use Rattle.verdict.specs.declared.Verdict.{Verdict}
-use Rattle.verdict.specs.declared.Verdict.TheVariants.{Refused, Taken, Passed, Dropped}
-use Rattle.verdict.specs.declared.Answer.{Answer}
-use Rattle.verdict.specs.Meaning.{Told}
+use Rattle.filter.specs.Meaning.{Asks, Fits, Missing, ExceedsBurst, Found, is_filter_of, row_of, search_of}
+use Rattle.verdict.specs.Meaning.{Verdict, Refused, Taken, Passed, Dropped, Answer, Told}
 use Rattle.path.specs.Meaning.{arrival_of}
 use Rattle.setup.specs.Meaning.{Listed, set_port_of, set_gate_of, add_entry_of, set_meter_of, set_group_of, set_scheduler_of, start_of, clear_of}
 use Rattle.record.specs.declared.Record.TheVariants as kind
-use Rattle.record.specs.declared.Reading.TheVariants as reading
 
 -- ---- the bridge, and what a call leaves of it
 
@@ -101,8 +93,8 @@ taken_of b input (kind.Clear r) used = bank_took b used (clear_of b.bank r (row_
 -- ---- the refusals, in the order they are tried: 11, then those of the reader (1, 2, 1, 4, 3), then the record's own
 
 unfoldable pub read_by : Bridge → List ℕ → Reading → Took
-read_by b input (reading.Refused r) = refused_of b r
-read_by b input (reading.Taken r used) = taken_of b input r used
+read_by b input (Err r) = refused_of b r
+read_by b input (Ok (r, used)) = taken_of b input r used
 
 -- a start was taken
 abbrev pub started_of : Rows → Bool

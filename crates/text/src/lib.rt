@@ -1,239 +1,256 @@
-// What the programs print, put octet by octet into a buffer that is lent (01, Program `ingress`).
-// Each function takes the place of the next octet and gives the place after its last one. Octets for which the buffer has no place are
-// left out, so that nothing here asks anything of the buffer.
+// What the programs print, put octet by octet into a page of fixed size (01, Program `ingress`).
+// Octets for which the page has no place are left out, so that nothing here asks anything of the page.
 #![tactic(auto)]
 
-ghost use Rattle.std.specs.Prelude.{◌≡◌};
+ghost use Rattle.std.specs.Prelude.{◌≡◌, ◌-◌, length, take, replicate};
 ghost use Rattle.bank.specs.Meaning.{rows_of};
-ghost use Rattle.text.specs.Meaning.{page, put_of, written, digits_of, pair_of, pass_line_of, drop_line_of, end_line_of, refused_line_of, item_of, filter_items_of, gate_items_of, meter_item_of, port_item_of, report_of, filters_of, gates_of, meters_of, ports_of, time_of};
+ghost use Rattle.record.specs.Meaning.{refusal_number_of};
+ghost use Rattle.text.specs.Meaning.{page, put_of, written, digits_of, pair_of, pass_line_of, drop_line_of, end_line_of, refused_line_of, item_of, filter_items_of, gate_items_of, meter_item_of, port_item_of, report_of, time_of};
 
-use bank::{Counters, Port, Words};
+use bank::{Bank, Counters, Port};
 use gate::Gate;
 use meter::Meter;
+use record::Refusal;
+use std::marker::Model;
 use verdict::{Drop, Pass};
 
 // The room that is kept for a line: none is longer (proofs/Room.antt).
 pub const LINE: usize = 64;
 
-// Ruled out: another octet; the place not moved on.
-pub fn put_octet(out: &mut [u8], at: usize, octet: u8) -> usize
-    ensures { page out.new result ≡ put_of (page out.old at) octet }
-{
-    if at < out.len() {
-        out[at] = octet;
-        return at + 1;
+// A buffer of N octets that is filled from its front.
+pub struct Page<const N: usize> {
+    octets: [u8; N],
+    // The place of the next octet.
+    filled: usize,
+}
+
+impl<const N: usize> Model for Page<N> {
+    ghost use Rattle.std.specs.Prelude.{◌≤◌};
+    ghost use Rattle.text.specs.Meaning.{page, Page as Filling};
+
+    ghost Value = { Filling };
+
+    ghost view = { λ p. page p.octets p.filled };
+
+    ghost invariant = { λ p. p.filled ≤ N };
+}
+
+impl<const N: usize> Page<N> {
+    // Ruled out: a page that is full; a page of other octets.
+    #[inline(always)]
+    pub fn new() -> Page<N>
+        ensures { result ≡ page (replicate N 0) 0 }
+    {
+        Page {
+            octets: [0; N],
+            filled: 0,
+        }
     }
-    at
-}
 
-// Ruled out: the first one over and over; all at one place.
-pub fn put_octets(out: &mut [u8], at: usize, octets: &[u8]) -> usize
-    ensures { page out.new result ≡ written (page out.old at) octets.now }
-{
-    let mut next = at;
-    let mut i: usize = 0;
-    while i < octets.len() {
-        next = put_octet(out, next, octets[i]);
-        i += 1;
+    // What is put so far.
+    // Ruled out: the whole page; nothing of it.
+    pub fn text(&self) -> &[u8]
+        ensures { result.now ≡ take self.now.filled self.now.octets }
+    {
+        &self.octets[..self.filled]
     }
-    next
-}
 
-// In decimal, with no leading zeros.
-// Ruled out: a digit twice; the first digit left out.
-#[tactic(auto, using(crate::proofs::Laws::digits_two))]
-pub fn put_number(out: &mut [u8], at: usize, n: u64) -> usize
-    ensures { page out.new result ≡ written (page out.old at) (digits_of n) }
-{
-    if n < 10 {
-        return put_octet(out, at, (n % 10 + 48) as u8);
+    // How many octets are put.
+    // Ruled out: how many there may be; one more.
+    pub fn len(&self) -> usize
+        ensures { result ≡ self.now.filled }
+    {
+        self.filled
     }
-    if n < 100 {
-        return put_pair(out, at, n);
+
+    // How many octets still have a place.
+    // Ruled out: how many are put; how many there may be in all.
+    pub fn room(&self) -> usize
+        ensures { result ≡ length self.now.octets - self.now.filled }
+    {
+        N - self.filled
     }
-    let next = put_number(out, at, n / 100);
-    put_pair(out, next, n)
-}
 
-// The last two digits: two at a time take half as many calls.
-fn put_pair(out: &mut [u8], at: usize, n: u64) -> usize
-    ensures { page out.new result ≡ written (page out.old at) (pair_of n) }
-{
-    let next = put_octet(out, at, (n / 10 % 10 + 48) as u8);
-    put_octet(out, next, (n % 10 + 48) as u8)
-}
-
-// The line of an arrival that passes.
-// Ruled out: the class for the priority; a time of 0 where there is none.
-pub fn put_pass(out: &mut [u8], at: usize, arrival: u64, p: Pass) -> usize
-    ensures { page out.new result ≡ written (page out.old at) (pass_line_of arrival p) }
-{
-    let a = put_number(out, at, arrival);
-    let b = put_octets(out, a, b" pass ");
-    let c = put_number(out, b, p.priority as u64);
-    let d = put_octet(out, c, b' ');
-    let e = put_number(out, d, p.class as u64);
-    let f = put_octet(out, e, b' ');
-    let g = put_number(out, f, p.drop_mark as u64);
-    let h = put_octet(out, g, b' ');
-    let i = put_time(out, h, p.timed, p.eligible);
-    put_octet(out, i, b'\n')
-}
-
-fn put_time(out: &mut [u8], at: usize, timed: bool, time: u64) -> usize
-    ensures { page out.new result ≡ written (page out.old at) (time_of timed time) }
-{
-    if timed {
-        put_number(out, at, time)
-    } else {
-        put_octet(out, at, b'-')
+    // From its front again.
+    // Ruled out: a page left as it is; its second place for its first.
+    pub fn clear(&mut self)
+        ensures { self.new ≡ page self.old.octets 0 }
+    {
+        self.filled = 0;
     }
-}
 
-// The line of an arrival that is dropped.
-// Ruled out: a drop told as a pass; the reason before the arrival.
-pub fn put_drop(out: &mut [u8], at: usize, arrival: u64, d: Drop) -> usize
-    ensures { page out.new result ≡ written (page out.old at) (drop_line_of arrival d) }
-{
-    let a = put_number(out, at, arrival);
-    let b = put_octets(out, a, b" drop ");
-    let c = put_number(out, b, verdict::drop_number(d) as u64);
-    put_octet(out, c, b'\n')
-}
-
-// The last line where no octet is left.
-// Ruled out: the word of another line; no end of line.
-pub fn put_end(out: &mut [u8], at: usize, records: u64) -> usize
-    ensures { page out.new result ≡ written (page out.old at) (end_line_of records) }
-{
-    let a = put_octets(out, at, b"end ");
-    let b = put_number(out, a, records);
-    put_octet(out, b, b'\n')
-}
-
-// The last line at a refusal.
-// Ruled out: number and offset changed over; the word of another line.
-pub fn put_refused(out: &mut [u8], at: usize, number: u8, offset: u64) -> usize
-    ensures { page out.new result ≡ written (page out.old at) (refused_line_of number offset) }
-{
-    let a = put_octets(out, at, b"refused ");
-    let b = put_number(out, a, number as u64);
-    let c = put_octets(out, b, b" at ");
-    let d = put_number(out, c, offset);
-    put_octet(out, d, b'\n')
-}
-
-// All that an operator looks at and that is not 0.
-// Ruled out: the value of another counter; the gates before the filters.
-pub fn put_report(out: &mut [u8], at: usize, bank: &Words) -> usize
-    ensures { page out.new result ≡ written (page out.old at) (report_of (rows_of bank.now)) }
-{
-    let a = put_filters(out, at, bank);
-    let b = put_gates(out, a, bank);
-    let c = put_meters(out, b, bank);
-    put_ports(out, c, bank)
-}
-
-fn put_filters(out: &mut [u8], at: usize, bank: &Words) -> usize
-    ensures { page out.new result ≡ written (page out.old at) (filters_of (rows_of bank.now)) }
-{
-    let mut next = at;
-    let mut i: usize = 0;
-    while i < sizes::FILTERS {
-        let c = bank::counters_at(bank, i);
-        next = put_filter(out, next, i as u64, c);
-        i += 1;
+    // Ruled out: another octet; the place not moved on.
+    #[tactic(auto, using(crate::proofs::Laws::put_in, crate::proofs::Laws::put_past))]
+    pub fn put_octet(&mut self, octet: u8)
+        ensures { self.new ≡ put_of self.old octet }
+    {
+        if self.filled < N {
+            self.octets[self.filled] = octet;
+            self.filled += 1;
+        }
     }
-    next
-}
 
-fn put_gates(out: &mut [u8], at: usize, bank: &Words) -> usize
-    ensures { page out.new result ≡ written (page out.old at) (gates_of (rows_of bank.now)) }
-{
-    let mut next = at;
-    let mut i: usize = 0;
-    while i < sizes::GATES {
-        let g = bank::gate_at(bank, i);
-        next = put_gate(out, next, i as u64, g);
-        i += 1;
+    // Ruled out: the first one over and over; all at one place.
+    pub fn put_octets(&mut self, octets: &[u8])
+        ensures { self.new ≡ written self.old octets.now }
+    {
+        for octet in octets {
+            self.put_octet(*octet);
+        }
     }
-    next
-}
 
-fn put_meters(out: &mut [u8], at: usize, bank: &Words) -> usize
-    ensures { page out.new result ≡ written (page out.old at) (meters_of (rows_of bank.now)) }
-{
-    let mut next = at;
-    let mut i: usize = 0;
-    while i < sizes::METERS {
-        let m = bank::meter_at(bank, i);
-        next = put_meter(out, next, i as u64, m);
-        i += 1;
+    // In decimal, with no leading zeros.
+    // Ruled out: a digit twice; the first digit left out.
+    #[tactic(auto, using(crate::proofs::Laws::puts, crate::proofs::Laws::digits_one, crate::proofs::Laws::digits_two, crate::proofs::Laws::digits_pair))]
+    pub fn put_number(&mut self, n: u64)
+        ensures { self.new ≡ written self.old (digits_of n) }
+    {
+        if n < 10 {
+            return self.put_octet((n % 10 + 48) as u8);
+        }
+        if n >= 100 {
+            self.put_number(n / 100);
+        }
+        self.put_pair(n);
     }
-    next
-}
 
-fn put_ports(out: &mut [u8], at: usize, bank: &Words) -> usize
-    ensures { page out.new result ≡ written (page out.old at) (ports_of (rows_of bank.now)) }
-{
-    let mut next = at;
-    let mut i: usize = 0;
-    while i < sizes::PORTS {
-        let p = bank::port_at(bank, i);
-        next = put_port(out, next, i as u64, p);
-        i += 1;
+    // The last two digits: two at a time take half as many calls.
+    #[tactic(auto, using(crate::proofs::Laws::puts))]
+    fn put_pair(&mut self, n: u64)
+        ensures { self.new ≡ written self.old (pair_of n) }
+    {
+        self.put_octet((n / 10 % 10 + 48) as u8);
+        self.put_octet((n % 10 + 48) as u8);
     }
-    next
-}
 
-fn put_filter(out: &mut [u8], at: usize, n: u64, c: Counters) -> usize
-    ensures { page out.new result ≡ written (page out.old at) (filter_items_of n c) }
-{
-    let a = put_item(out, at, b"filter ", n, b" MatchingFrames ", c.matching);
-    let b = put_item(out, a, b"filter ", n, b" PassingSDU ", c.passing_sdu);
-    let d = put_item(out, b, b"filter ", n, b" NotPassingSDU ", c.not_passing_sdu);
-    let e = put_item(out, d, b"filter ", n, b" PassingFrames ", c.passing);
-    let f = put_item(out, e, b"filter ", n, b" NotPassingFrames ", c.not_passing);
-    let g = put_item(out, f, b"filter ", n, b" REDFrames ", c.red);
-    put_item(out, g, b"filter ", n, b" oversize ", c.oversize as u64)
-}
-
-fn put_gate(out: &mut [u8], at: usize, n: u64, g: Gate) -> usize
-    ensures { page out.new result ≡ written (page out.old at) (gate_items_of n g) }
-{
-    let a = put_item(
-        out,
-        at,
-        b"gate ",
-        n,
-        b" invalid-receive ",
-        g.invalid_receive_flag as u64,
-    );
-    put_item(out, a, b"gate ", n, b" octets ", g.octets_flag as u64)
-}
-
-fn put_meter(out: &mut [u8], at: usize, n: u64, m: Meter) -> usize
-    ensures { page out.new result ≡ written (page out.old at) (meter_item_of n m) }
-{
-    put_item(out, at, b"meter ", n, b" red ", m.red_flag as u64)
-}
-
-fn put_port(out: &mut [u8], at: usize, n: u64, p: Port) -> usize
-    ensures { page out.new result ≡ written (page out.old at) (port_item_of n p) }
-{
-    put_item(out, at, b"port ", n, b" DiscardedFrames ", p.discarded)
-}
-
-// One line of the report; nothing where the value is 0.
-fn put_item(out: &mut [u8], at: usize, table: &[u8], n: u64, name: &[u8], value: u64) -> usize
-    ensures { page out.new result ≡ written (page out.old at) (item_of table.now n name.now value) }
-{
-    if value == 0 {
-        return at;
+    // The line of an arrival that passes.
+    // Ruled out: the class for the priority; a time of 0 where there is none.
+    #[tactic(auto, using(crate::proofs::Laws::puts), unfolding(crate::specs::Meaning::pass_line_of))]
+    pub fn put_pass(&mut self, arrival: u64, p: Pass)
+        ensures { self.new ≡ written self.old (pass_line_of arrival p) }
+    {
+        self.put_number(arrival);
+        self.put_octets(b" pass ");
+        self.put_number(p.priority as u64);
+        self.put_octet(b' ');
+        self.put_number(p.class as u64);
+        self.put_octet(b' ');
+        self.put_number(p.drop_mark as u64);
+        self.put_octet(b' ');
+        self.put_time(p.eligible);
+        self.put_octet(b'\n');
     }
-    let a = put_octets(out, at, table);
-    let b = put_number(out, a, n);
-    let c = put_octets(out, b, name);
-    let d = put_number(out, c, value);
-    put_octet(out, d, b'\n')
+
+    #[tactic(auto, using(crate::proofs::Laws::puts))]
+    fn put_time(&mut self, time: Option<u64>)
+        ensures { self.new ≡ written self.old (time_of time) }
+    {
+        match time {
+            Some(t) => self.put_number(t),
+            None => self.put_octet(b'-'),
+        }
+    }
+
+    // The line of an arrival that is dropped.
+    // Ruled out: a drop told as a pass; the reason before the arrival.
+    #[tactic(auto, using(crate::proofs::Laws::puts), unfolding(crate::specs::Meaning::drop_line_of))]
+    pub fn put_drop(&mut self, arrival: u64, d: Drop)
+        ensures { self.new ≡ written self.old (drop_line_of arrival d) }
+    {
+        self.put_number(arrival);
+        self.put_octets(b" drop ");
+        self.put_number(u64::from(u8::from(d)));
+        self.put_octet(b'\n');
+    }
+
+    // The last line where no octet is left.
+    // Ruled out: the word of another line; no end of line.
+    #[tactic(auto, using(crate::proofs::Laws::puts), unfolding(crate::specs::Meaning::end_line_of))]
+    pub fn put_end(&mut self, records: u64)
+        ensures { self.new ≡ written self.old (end_line_of records) }
+    {
+        self.put_octets(b"end ");
+        self.put_number(records);
+        self.put_octet(b'\n');
+    }
+    // The last line at a refusal.
+    // Ruled out: number and offset changed over; the word of another line.
+    #[tactic(auto, using(crate::proofs::Laws::puts), unfolding(crate::specs::Meaning::refused_line_of))]
+    pub fn put_refused(&mut self, refusal: Refusal, offset: u64)
+        ensures { self.new ≡ written self.old (refused_line_of (refusal_number_of refusal) offset) }
+    {
+        self.put_octets(b"refused ");
+        self.put_number(u64::from(u8::from(refusal)));
+        self.put_octets(b" at ");
+        self.put_number(offset);
+        self.put_octet(b'\n');
+    }
+
+    // All that an operator looks at and that is not 0.
+    // Ruled out: the value of another counter; the gates before the filters.
+    #[tactic(auto, using(crate::proofs::Laws::puts), unfolding(crate::specs::Meaning::report_of))]
+    pub fn put_report(&mut self, bank: &Bank)
+        ensures { self.new ≡ written self.old (report_of (rows_of bank.now)) }
+    {
+        for i in 0..sizes::FILTERS {
+            self.put_filter(i as u64, bank.counters_at(i));
+        }
+        for i in 0..sizes::GATES {
+            self.put_gate(i as u64, bank.gate_at(i));
+        }
+        for i in 0..sizes::METERS {
+            self.put_meter(i as u64, bank.meter_at(i));
+        }
+        for i in 0..sizes::PORTS {
+            self.put_port(i as u64, bank.port_at(i));
+        }
+    }
+
+    #[tactic(auto, using(crate::proofs::Laws::puts), unfolding(crate::specs::Meaning::filter_items_of))]
+    fn put_filter(&mut self, n: u64, c: Counters)
+        ensures { self.new ≡ written self.old (filter_items_of n c) }
+    {
+        self.put_item(b"filter ", n, b" MatchingFrames ", c.matching);
+        self.put_item(b"filter ", n, b" PassingSDU ", c.passing_sdu);
+        self.put_item(b"filter ", n, b" NotPassingSDU ", c.not_passing_sdu);
+        self.put_item(b"filter ", n, b" PassingFrames ", c.passing);
+        self.put_item(b"filter ", n, b" NotPassingFrames ", c.not_passing);
+        self.put_item(b"filter ", n, b" REDFrames ", c.red);
+        self.put_item(b"filter ", n, b" oversize ", c.oversize as u64);
+    }
+
+    #[tactic(auto, using(crate::proofs::Laws::puts), unfolding(crate::specs::Meaning::gate_items_of))]
+    fn put_gate(&mut self, n: u64, g: Gate)
+        ensures { self.new ≡ written self.old (gate_items_of n g) }
+    {
+        self.put_item(b"gate ", n, b" invalid-receive ", g.invalid_receive_flag as u64);
+        self.put_item(b"gate ", n, b" octets ", g.octets_flag as u64);
+    }
+
+    fn put_meter(&mut self, n: u64, m: Meter)
+        ensures { self.new ≡ written self.old (meter_item_of n m) }
+    {
+        self.put_item(b"meter ", n, b" red ", m.red_flag as u64);
+    }
+
+    fn put_port(&mut self, n: u64, p: Port)
+        ensures { self.new ≡ written self.old (port_item_of n p) }
+    {
+        self.put_item(b"port ", n, b" DiscardedFrames ", p.discarded);
+    }
+
+    // One line of the report; nothing where the value is 0.
+    #[tactic(auto, using(crate::proofs::Laws::puts), unfolding(crate::specs::Meaning::item_of))]
+    fn put_item(&mut self, table: &[u8], n: u64, name: &[u8], value: u64)
+        ensures { self.new ≡ written self.old (item_of table.now n name.now value) }
+    {
+        if value == 0 {
+            return;
+        }
+        self.put_octets(table);
+        self.put_number(n);
+        self.put_octets(name);
+        self.put_number(value);
+        self.put_octet(b'\n');
+    }
 }

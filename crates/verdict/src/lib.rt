@@ -1,10 +1,8 @@
-// What a call answers: how many octets it used, and the verdict (01, Refusal numbers; 01, A frame's path).
+// What a call answers: a refusal, or how many octets it used and what came of the record (01, Refusal numbers; 01, A frame's path).
 #![tactic(auto)]
 
 ghost use Rattle.std.specs.Prelude.{◌≡◌};
 ghost use Rattle.verdict.specs.Meaning.{drop_number_of};
-
-use record::Refusal;
 
 // Why a frame is dropped. `drop_number_of` in specs/ has document 01's number for each case.
 #[derive(Clone, Copy)]
@@ -25,6 +23,24 @@ pub enum Drop {
     Residence,
 }
 
+// Ruled out: drop 7 for a closed gate; one number for two reasons.
+impl From<Drop> for u8 {
+    ghost from_gives = { λ d n. n ≡ drop_number_of d };
+
+    fn from(d: Drop) -> u8 {
+        match d {
+            Drop::OversizeBlocked => 1,
+            Drop::Oversize => 2,
+            Drop::GateBlocked => 3,
+            Drop::GateClosed => 4,
+            Drop::GateOctets => 5,
+            Drop::Yellow => 6,
+            Drop::Red => 7,
+            Drop::Residence => 8,
+        }
+    }
+}
+
 // What a frame that passes carries.
 #[derive(Clone, Copy)]
 pub struct Pass {
@@ -33,40 +49,23 @@ pub struct Pass {
     pub class: u8,
     // 1 where the frame is drop eligible.
     pub drop_mark: u8,
-    // Whether there is an eligibility time; `eligible` is 0 where there is none.
-    pub timed: bool,
-    // In ns.
-    pub eligible: u64,
+    // In ns; none where no scheduler gave one.
+    pub eligible: Option<u64>,
 }
 
+// What came of a record that was taken.
 #[derive(Clone, Copy)]
-pub enum Verdict {
-    Refused(Refusal),
+pub enum Outcome {
     // A record that is no arrival.
-    Taken,
+    Done,
     Passed(Pass),
     Dropped(Drop),
 }
 
+// Where a record is taken. A refusal uses no octets.
 #[derive(Clone, Copy)]
-pub struct Answer {
-    // A refusal uses 0 octets, a taken record its whole length.
+pub struct Taken {
+    // The record's whole length.
     pub used: usize,
-    pub verdict: Verdict,
-}
-
-// Ruled out: drop 7 for a closed gate; one number for two reasons.
-pub fn drop_number(d: Drop) -> u8
-    ensures { result ≡ drop_number_of d }
-{
-    match d {
-        Drop::OversizeBlocked => 1,
-        Drop::Oversize => 2,
-        Drop::GateBlocked => 3,
-        Drop::GateClosed => 4,
-        Drop::GateOctets => 5,
-        Drop::Yellow => 6,
-        Drop::Red => 7,
-        Drop::Residence => 8,
-    }
+    pub outcome: Outcome,
 }

@@ -1,13 +1,8 @@
--- Invariant: what is looked for among the entries from i on is what was asked for.
-use Prim.Native.Nat.{◌-◌, ◌≤◌}
-use mathlib.Core.Path.{◌≡◌}
-use Rattle.gate.specs.Meaning.{entries_in, entries_of, found_of}
-use Rattle.gate.proofs.Walk.{rest_of}
-use Rattle.sizes.specs.Meaning.{entry_count}
+-- Invariant: what is looked for among the entries from the one at hand on is what was asked for.
+use Rattle.std.proofs.Common.{◌≡◌, ◌≤◌, map, drop}
+use Rattle.gate.specs.Entries.{entry_in}
+use Rattle.gate.specs.Meaning.{found_of}
 use Rattle.gate.proofs.find.Given as goal
 
-abbrev pub invariant-loop-i : goal.invariant-loop-i
-invariant-loop-i l = (l.i ≤ entries_in l.list) × (l.x ≤ l.time) × (found_of l.time (rest_of l.list l.i) l.i l.x ≡ found_of l.time (entries_of l.list) 0 l.offset)
-
-abbrev pub decreases-loop-i : goal.decreases-loop-i
-decreases-loop-i l = entry_count - l.i
+abbrev pub invariant-loop-index : goal.invariant-loop-index
+invariant-loop-index l = (l.x ≤ l.time) × (found_of l.time (map entry_in (drop l.index l.entries)) l.index l.x ≡ found_of l.time (map entry_in l.entries) 0 l.offset)
