@@ -1,6 +1,6 @@
 -- ★A to ★L of document 01 in one table, computed by the definitions that the contracts cite.
 use Rattle.std.specs.Prelude.{ℕ, false, cond, List, [], ◌∷◌, ◌++◌, ◌≡◌, refl, eqb, Some, None}
-use Rattle.core.specs.declared.option.Option.{Option}
+use Rattle.std.specs.Prelude.{Option}
 use Rattle.class.specs.Meaning.{traffic_class_of, class_rows}
 use Rattle.gate.specs.Meaning.{entries_from, entries_of, cycle_of, found_of, in_force_of, no_limit, spent_of, limited_of, passed_of, gate_step_of, Frame, gate_after as gateAfterOf}
 use Rattle.gate.proofs.Worked.{Row, figures_of, figure_gate, figure_list, frames_f, frames_g, frames_h, frames_i}

@@ -1,6 +1,6 @@
 -- Steps 1 to 4 of a frame's path on two banks that are equal outside a group: what holds of step 5 on both holds of the whole path on both.
 use Rattle.std.specs.Prelude.{ℕ, ◌%◌, ◌<◌, ◌^◌, Bool, true, false, not, ◌&&◌, ◌||◌, cond, List, ◌≡◌, refl, None, Some}
-use Rattle.core.specs.declared.option.Option.{Option}
+use Rattle.std.specs.Prelude.{Option}
 use Rattle.std.proofs.Math.Path.{ap, subst}
 use Rattle.std.proofs.Common.{◌∙◌, arith}
 use Rattle.std.proofs.Math.Dec.{ltb, eqb}

@@ -1,7 +1,7 @@
 -- Why the promise on bursts asks that the first history drops nothing of the group with 8: two histories, computed from their octets.
 -- A burst of 1500 instead of 1000 admits the second frame, too, which the first history drops; the third frame is then eligible later: at 12,000 instead of 8000 ns.
 use Rattle.std.specs.Prelude.{ℕ, List, [], ◌∷◌, ◌++◌, ◌≡◌, refl, Some, None}
-use Rattle.core.specs.declared.option.Option.{Option}
+use Rattle.std.specs.Prelude.{Option}
 use Rattle.std.proofs.Common.{arith}
 use Rattle.gate.specs.Meaning.{entries_from, cycle_of, found_of, in_force_of, spent_of, limited_of, passed_of, gate_step_of}
 use Rattle.scheduler.specs.Meaning.{scheduler_step_of, scheduler_in_range as schedulerInRangeOf}

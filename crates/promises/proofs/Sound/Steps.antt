@@ -1,6 +1,6 @@
 -- What the steps of a frame compute, where the bank is sound: the meter and the scheduler that a frame reaches never refuse it, and its class is that of the table.
 use Rattle.std.specs.Prelude.{ℕ, ◌%◌, ◌≤◌, ◌^◌, Bool, true, not, ◌≡◌, refl, leb, eqb}
-use Rattle.core.specs.declared.option.Option.{Option}
+use Rattle.std.specs.Prelude.{Option}
 use Rattle.std.proofs.Common.{sym, ap, ◌∙◌, arith, le-leb, leb-true}
 use Rattle.std.proofs.lemmas.Bool.{eqb-false}
 use Rattle.logic.specs.Laws.{both, if_by, by_test, contrary}

@@ -1,7 +1,7 @@
 -- Demand 2, one frame: whatever calls came before, and whatever was written into the lent table between them, the verdict of a frame is the one that document 01
 -- gives, and no other. A meter or a scheduler that a frame reaches never refuses it, and its class is always that of the table.
 use Rattle.std.specs.Prelude.{ℕ, ◌+◌, ◌^◌, ◌≤◌, ◌<◌, Bool, true, false, cond, List, [], ◌∷◌, ◌≢◌, ◌↔◌, ◌≡◌, refl, leb, length, Ok, Some, None}
-use Rattle.core.specs.declared.option.Option.{Option}
+use Rattle.std.specs.Prelude.{Option}
 use Rattle.std.proofs.Common.{sym, subst, ◌∙◌, arith, leb-true, leb-false, eq-eqb}
 use Rattle.std.proofs.Math.Path.{ap}
 use Rattle.sizes.specs.Meaning.{filter_count}

@@ -2,7 +2,7 @@
 -- there. The answers that a meter, a scheduler and the table of classes keep for numbers that no record could have written are none of these cases.
 -- That the verdict is always one of them, and this one, is `Theorem.antt`.
 use Rattle.std.specs.Prelude.{ℕ, ◌+◌, ◌≤◌, ◌<◌, ◌^◌, Bool, true, false, List, ◌≢◌, ◌≡◌, None, Some}
-use Rattle.core.specs.declared.option.Option.{Option}
+use Rattle.std.specs.Prelude.{Option}
 use Rattle.bucket.specs.Meaning.{grains}
 use Rattle.class.specs.Meaning.{class_at}
 use Rattle.gate.specs.declared.Outcome.TheVariants.{Passed as Open, Blocked, Closed, TooManyOctets}
