@@ -1,23 +1,21 @@
 // One step of a scheduler, of a meter and of a gate, each kept in words that are lent, as C and Rust call it: what bench/ measures.
 #![tactic(auto)]
 
-ghost use Rattle.std.specs.Prelude.{◌≡◌, ◌<◌};
-ghost use Rattle.gate.specs.Meaning.{gate_number_of};
-ghost use Rattle.scheduler.specs.Meaning.{scheduler_number_of};
-ghost use Rattle.scheduler.specs.Worked.{group_after};
+ghost use Rattle.std.specs.Prelude.{◌≡◌};
 ghost use Rattle.bench_steps.specs.Words.{Stepped};
 ghost use Rattle.bench_steps.specs.Scheduler.{offered_of};
-ghost use Rattle.bench_steps.specs.Meter.{coloured_of, told_of};
-ghost use Rattle.bench_steps.specs.Gate.{gate_of, gated_of, ipv_of, code_of};
+ghost use Rattle.bench_steps.specs.Meter.{coloured_of};
+ghost use Rattle.bench_steps.specs.Gate.{gated_of};
 
 use bucket::{Octets, Rate};
 use gate::Gate;
 use meter::Meter;
-use scheduler::Scheduler;
+use scheduler::{Offer, Scheduler};
 
 // Words 0 to 4: CIR, CBS, level in grains, last eligibility time, the group's last time. Answers 0, or document 01's number.
 // Ruled out: the level stored in the word of the last time; an answer of 0 for a frame that is dropped.
 #[unsafe(no_mangle)]
+#[tactic(auto, unfolding(crate::specs::Scheduler::offered_of))]
 pub extern "C" fn bench_scheduler_step(
     words: &mut [u64; 8],
     residence: u64,
@@ -26,38 +24,25 @@ pub extern "C" fn bench_scheduler_step(
 ) -> u64
     ensures { ◌≡◌ {A = Stepped} (record { words = words.new; answer = result }) (offered_of words.old residence arrival length) }
 {
-    let s = Scheduler {
+    let mut s = Scheduler {
         rate: Rate(words[0]),
         burst: Octets((words[1] % 4_294_967_296) as u32),
         level: words[2],
         last: words[3],
     };
-    let group = words[4];
-    let r = scheduler::offered(s, group, residence, arrival, Octets(length));
-    let n = r.scheduler;
-    let o = r.outcome;
-    words[2] = n.level;
-    words[3] = n.last;
-    words[4] = group_after(group, o);
-    admitted(o)
-}
-
-// The group's last time, which was `group`.
-fn group_after(group: u64, o: scheduler::Outcome) -> u64
-    ensures { result ≡ group_after group o }
-{
-    match o {
-        scheduler::Outcome::Admitted { at } => at,
-        scheduler::Outcome::Dropped => group,
-        scheduler::Outcome::Refused => group,
-    }
-}
-
-fn admitted(o: scheduler::Outcome) -> u64
-    ensures { result ≡ scheduler_number_of o }
-{
-    match o {
-        scheduler::Outcome::Admitted { at: _ } => 0,
+    let outcome = s.step_in_place(Offer {
+        group: words[4],
+        residence,
+        arrival,
+        length: Octets(length),
+    });
+    words[2] = s.level;
+    words[3] = s.last;
+    match outcome {
+        scheduler::Outcome::Admitted { at } => {
+            words[4] = at;
+            0
+        }
         scheduler::Outcome::Dropped => 8,
         scheduler::Outcome::Refused => 3,
     }
@@ -67,6 +52,7 @@ fn admitted(o: scheduler::Outcome) -> u64
 // grains, time of the last fill. Answers 0 green, 1 yellow, or document 01's number.
 // Ruled out: tokens stored in each other's word; an answer of green for a frame that is yellow.
 #[unsafe(no_mangle)]
+#[tactic(auto, unfolding(crate::specs::Meter::coloured_of))]
 pub extern "C" fn bench_meter_step(
     words: &mut [u64; 16],
     time: u64,
@@ -95,14 +81,7 @@ pub extern "C" fn bench_meter_step(
     words[9] = n.committed;
     words[10] = n.excess;
     words[11] = n.last;
-    let o = r.outcome;
-    told(o)
-}
-
-fn told(o: meter::Outcome) -> u64
-    ensures { result ≡ told_of o }
-{
-    match o {
+    match r.outcome {
         meter::Outcome::Green => 0,
         meter::Outcome::Yellow => 1,
         meter::Outcome::YellowDropped => 6,
@@ -116,23 +95,11 @@ fn told(o: meter::Outcome) -> u64
 // IPV where it passes.
 // Ruled out: the gate of the next frame is the one before this frame; a drop answers the IPV in force.
 #[unsafe(no_mangle)]
+#[tactic(auto, unfolding(crate::specs::Gate::gated_of))]
 pub extern "C" fn bench_gate_step(list: &[u8], words: &mut [u64; 9], time: u64, msdu: u64) -> u64
     ensures { ◌≡◌ {A = Stepped} (record { words = words.new; answer = result }) (gated_of words.old list.now time msdu) }
 {
-    let r = gate::step(load(words), list, time, msdu);
-    let o = r.outcome;
-    let n = r.gate;
-    words[5] = n.invalid_receive_flag as u64;
-    words[6] = n.octets_flag as u64;
-    words[7] = n.since;
-    words[8] = n.spent;
-    code(o)
-}
-
-fn load(words: &[u64; 9]) -> Gate
-    ensures { result ≡ gate_of words.now }
-{
-    Gate {
+    let g = Gate {
         opened: words[0] != 0,
         ipv: (words[1] % 256) as u8,
         invalid_receive_block: words[2] != 0,
@@ -142,39 +109,17 @@ fn load(words: &[u64; 9]) -> Gate
         octets_flag: words[6] != 0,
         since: words[7],
         spent: words[8],
+    };
+    let r = gate::step(g, list, time, msdu);
+    let n = r.gate;
+    words[5] = n.invalid_receive_flag as u64;
+    words[6] = n.octets_flag as u64;
+    words[7] = n.since;
+    words[8] = n.spent;
+    match r.outcome {
+        gate::Outcome::Passed(ipv) => ipv as u64,
+        gate::Outcome::Blocked => 3 * 256,
+        gate::Outcome::Closed => 4 * 256,
+        gate::Outcome::TooManyOctets => 5 * 256,
     }
-}
-
-fn code(o: gate::Outcome) -> u64
-    ensures { result ≡ code_of o }
-{
-    wide(number(o)) * 256 + wide(ipv(o))
-}
-
-fn number(o: gate::Outcome) -> u8
-    ensures { result ≡ gate_number_of o }
-{
-    match o {
-        gate::Outcome::Passed(_) => 0,
-        gate::Outcome::Blocked => 3,
-        gate::Outcome::Closed => 4,
-        gate::Outcome::TooManyOctets => 5,
-    }
-}
-
-fn ipv(o: gate::Outcome) -> u8
-    ensures { result ≡ ipv_of o }
-{
-    match o {
-        gate::Outcome::Passed(ipv) => ipv,
-        gate::Outcome::Blocked => 0,
-        gate::Outcome::Closed => 0,
-        gate::Outcome::TooManyOctets => 0,
-    }
-}
-
-fn wide(octet: u8) -> u64
-    ensures { (result ≡ octet) × (result < 256) }
-{
-    octet as u64
 }

@@ -1,7 +1,7 @@
 -- Laws of `grown`, `ceiling` and `wait_for`: what meters, schedulers and the promise on bursts rest on.
-use Rattle.std.specs.Prelude.{◌≡◌, ℕ, ◌+◌, ◌-◌, ◌*◌, ◌/◌, ◌%◌, ◌≤◌, ◌<◌, min}
-use Rattle.std.proofs.Common.{ap, subst, ◌∙◌, mul-add, mul_comm, add-mul, one-mul, mul-le-mul_left, mul-le-mul_right, mul-zero, mod-lt, div-add-mod', div-lt_iff_lt-mul, le-div_iff_mul-le, arith}
-use Rattle.std.proofs.Math.Nat.{div-eq_of_lt-le, div-eq_of_lt, div-zero}
+use Rattle.std.specs.Prelude.{◌≡◌, ℕ, ◌+◌, ◌-◌, ◌*◌, ◌≤◌, ◌<◌, min}
+use Rattle.std.proofs.Common.{subst, mul-add, mul_comm, add-mul, one-mul, mul-le-mul_left, mul-le-mul_right, mul-zero, div-lt_iff_lt-mul, le-div_iff_mul-le, arith}
+use Rattle.std.proofs.Math.Nat.{div-eq_of_lt}
 use Rattle.bucket.specs.Meaning.{grown, ceiling, wait_for}
 
 pub grown_cap : (l r c d : ℕ) → grown l r c d ≤ c

@@ -10,10 +10,7 @@ use Rattle.bucket.specs.declared.Octets.{Octets}
 use Rattle.frame.specs.Meaning.{length_of}
 use Rattle.bank.specs.Meaning.{Rows, gate_is_set, meter_is_set, scheduler_is_set, burst, component}
 use Rattle.filter.specs.declared.Filter.{Filter}
-use Rattle.filter.specs.declared.Asks.{Asks}
-use Rattle.filter.specs.declared.Asks.TheVariants.{Fits, Missing, ExceedsBurst, Any}
-use Rattle.filter.specs.declared.Question.{Question}
-use Rattle.filter.specs.Meaning.{no_row, row_in_range, is_filter_of, names_missing, exceeds_burst, counts_of, fits_of, asked, row_answers}
+use Rattle.filter.specs.Meaning.{no_row, row_in_range, is_filter_of, names_missing, exceeds_burst, counts_of, fits_of, Asks, Fits, Missing, ExceedsBurst, Any, Question, asked, row_answers}
 
 -- a number that names something, and what is then tested of it
 named : (n : ℕ) (t : Bool) → n ≢ 255 → (not (eqb n 255) && t) ≡ false → t ≡ false

@@ -1,35 +1,33 @@
 -- The search: what it finds, and what it doesn't depend on.
-use Rattle.std.specs.Prelude.{ℕ, zero, suc, ◌+◌, ◌-◌, ◌≤◌, ◌<◌, Bool, true, false, cond, ◌≡◌, List, ltb, length, set}
+use Rattle.std.specs.Prelude.{ℕ, zero, suc, ◌+◌, ◌-◌, ◌≤◌, ◌<◌, Bool, true, false, cond, ◌≡◌, List, ltb, length, set, Some, None}
 use Rattle.std.proofs.Common.{true≢false, sym, ap, subst, ◌∙◌, arith, ltb-true, ltb-false, get_or-set_same, get_or-set_other}
 use Rattle.std.proofs.Math.Path.{refl}
+use Rattle.std.proofs.lemmas.Option.{some_pair_parts}
 use Rattle.std.proofs.Math.Decide.{ℕ_discrete}
 use Rattle.std.proofs.Math.ListN.{get_or-eq_default}
 use Rattle.std.proofs.Math.Seq.{set_out}
 use Rattle.bank.specs.Meaning.{Rows}
 use Rattle.filter.specs.declared.Filter.{Filter}
-use Rattle.filter.specs.declared.Asks.TheVariants.{Fits, Any}
-use Rattle.filter.specs.declared.Question.{Question}
-use Rattle.filter.specs.declared.Found.TheVariants.{Nothing, At}
-use Rattle.filter.specs.Meaning.{no_row, is_filter_of, counts_of, row_of, row_answers, first_found, search_from, search_of}
+use Rattle.filter.specs.Meaning.{no_row, is_filter_of, counts_of, row_of, Fits, Any, Question, row_answers, Found, first_found, search_from, search_of}
 use Rattle.filter.proofs.Laws.{SameParts, Asking, answers_asked, answers_same, answers_empty, answers_spoiled, answers_no_filter}
 
 -- ---- the first row that passes a test
 
 module _ (test : Filter → Bool) (rows : List Filter) where
   -- a place at a time, as a loop goes up to and without `end`
-  first_turn : (end i : ℕ) → i < end → first_found test rows i (end - i) ≡ cond (test (row_of rows i)) (At i (row_of rows i)) (first_found test rows (i + 1) (end - (i + 1)))
+  first_turn : (end i : ℕ) → i < end → first_found test rows i (end - i) ≡ cond (test (row_of rows i)) (Some (i, row_of rows i)) (first_found test rows (i + 1) (end - (i + 1)))
   first_turn end i h = ap (first_found test rows i) (one_less h)
     where
       one_less : i < end → end - i ≡ suc (end - (i + 1))
       one_less h = omega (arith, h)
 
-  first_hit : (end i : ℕ) → i < end → test (row_of rows i) ≡ true → first_found test rows i (end - i) ≡ At i (row_of rows i)
-  first_hit end i h e = first_turn end i h ∙ ap (λ (t : Bool). cond t (At i (row_of rows i)) (first_found test rows (i + 1) (end - (i + 1)))) e
+  first_hit : (end i : ℕ) → i < end → test (row_of rows i) ≡ true → first_found test rows i (end - i) ≡ Some (i, row_of rows i)
+  first_hit end i h e = first_turn end i h ∙ ap (λ (t : Bool). cond t (Some (i, row_of rows i)) (first_found test rows (i + 1) (end - (i + 1)))) e
 
   first_next : (end i : ℕ) → i < end → test (row_of rows i) ≡ false → first_found test rows i (end - i) ≡ first_found test rows (i + 1) (end - (i + 1))
-  first_next end i h e = first_turn end i h ∙ ap (λ (t : Bool). cond t (At i (row_of rows i)) (first_found test rows (i + 1) (end - (i + 1)))) e
+  first_next end i h e = first_turn end i h ∙ ap (λ (t : Bool). cond t (Some (i, row_of rows i)) (first_found test rows (i + 1) (end - (i + 1)))) e
 
-  first_over : (end i : ℕ) → end ≤ i → first_found test rows i (end - i) ≡ Nothing
+  first_over : (end i : ℕ) → end ≤ i → first_found test rows i (end - i) ≡ None
   first_over end i h = ap (first_found test rows i) (none_left h)
     where
       none_left : end ≤ i → end - i ≡ 0
@@ -50,15 +48,16 @@ module _ (test : Filter → Bool) (rows : List Filter) where
     pub passes : test row ≡ true
     pub first : (j : ℕ) → i ≤ j → j < k → test (row_of rows j) ≡ false
 
-  first_finds : (i n k : ℕ) (row : Filter) → first_found test rows i n ≡ At k row → Finds i (i + n) k row
+  first_finds : (i n k : ℕ) (row : Filter) → first_found test rows i n ≡ Some (k, row) → Finds i (i + n) k row
   first_finds i zero k row e = absurd (let z : ◌≡◌ {A = ℕ} 0 1 = cc in omega arith)
   first_finds i (suc n) k row e = by_test (test (row_of rows i)) refl e (first_finds (i + 1) n k row)
     where
-      by_test : (t : Bool) → test (row_of rows i) ≡ t → cond t (At i (row_of rows i)) (first_found test rows (i + 1) n) ≡ At k row
-          → (first_found test rows (i + 1) n ≡ At k row → Finds (i + 1) (i + 1 + n) k row) → Finds i (i + suc n) k row
+      by_test : (t : Bool) → test (row_of rows i) ≡ t → cond t (Some (i, row_of rows i)) (first_found test rows (i + 1) n) ≡ Some (k, row)
+          → (first_found test rows (i + 1) n ≡ Some (k, row) → Finds (i + 1) (i + 1 + n) k row) → Finds i (i + suc n) k row
       by_test true h g rest =
-          let p : i ≡ k = cc in
-          let r : row ≡ row_of rows i = cc in
+          let parts = some_pair_parts i k (row_of rows i) row g in
+          let p = parts.0 in
+          let r = sym parts.1 in
           record { low = omega (arith, p); high = omega (arith, p); there = r ∙ ap (row_of rows) p; passes = ap test r ∙ h; first = λ j l u. absurd (omega (arith, l, u, p)) }
       by_test false h g rest =
           let f = rest g in
@@ -68,12 +67,12 @@ module _ (test : Filter → Bool) (rows : List Filter) where
           by_place j l u (yes p) f = ap (λ (m : ℕ). test (row_of rows m)) p ∙ h
           by_place j l u (no p) f = f.first j (omega (arith, l, p)) u
 
-  first_nothing : (i n : ℕ) → first_found test rows i n ≡ Nothing → (j : ℕ) → i ≤ j → j < i + n → test (row_of rows j) ≡ false
+  first_nothing : (i n : ℕ) → first_found test rows i n ≡ None → (j : ℕ) → i ≤ j → j < i + n → test (row_of rows j) ≡ false
   first_nothing i zero e j l u = absurd (omega (arith, l, u))
   first_nothing i (suc n) e j l u = by_test (test (row_of rows i)) refl e (ℕ_discrete j i) (first_nothing (i + 1) n)
     where
-      by_test : (t : Bool) → test (row_of rows i) ≡ t → cond t (At i (row_of rows i)) (first_found test rows (i + 1) n) ≡ Nothing → Dec (j ≡ i)
-          → (first_found test rows (i + 1) n ≡ Nothing → (j : ℕ) → i + 1 ≤ j → j < i + 1 + n → test (row_of rows j) ≡ false) → test (row_of rows j) ≡ false
+      by_test : (t : Bool) → test (row_of rows i) ≡ t → cond t (Some (i, row_of rows i)) (first_found test rows (i + 1) n) ≡ None → Dec (j ≡ i)
+          → (first_found test rows (i + 1) n ≡ None → (j : ℕ) → i + 1 ≤ j → j < i + 1 + n → test (row_of rows j) ≡ false) → test (row_of rows j) ≡ false
       by_test true h g d rest = absurd (let z : ◌≡◌ {A = ℕ} 0 1 = cc in omega arith)
       by_test false h g (yes p) rest = ap (λ (m : ℕ). test (row_of rows m)) p ∙ h
       by_test false h g (no p) rest = rest g j (omega (arith, l, p)) (omega (arith, u))
@@ -83,11 +82,11 @@ first_alike : (test test' : Filter → Bool) (rows rows' : List Filter) → ((j 
     → (i n : ℕ) → first_found test rows i n ≡ first_found test' rows' i n
 first_alike test test' rows rows' tests same i zero = refl
 first_alike test test' rows rows' tests same i (suc n) =
-    by_test (test (row_of rows i)) refl (first_alike test test' rows rows' tests same (i + 1) n) ∙ ap (λ (t : Bool). cond t (At i (row_of rows' i)) (first_found test' rows' (i + 1) n)) (tests i)
+    by_test (test (row_of rows i)) refl (first_alike test test' rows rows' tests same (i + 1) n) ∙ ap (λ (t : Bool). cond t (Some (i, row_of rows' i)) (first_found test' rows' (i + 1) n)) (tests i)
   where
     by_test : (t : Bool) → test (row_of rows i) ≡ t → first_found test rows (i + 1) n ≡ first_found test' rows' (i + 1) n
-        → cond t (At i (row_of rows i)) (first_found test rows (i + 1) n) ≡ cond t (At i (row_of rows' i)) (first_found test' rows' (i + 1) n)
-    by_test true h rest = ap (At i) (same i h)
+        → cond t (Some (i, row_of rows i)) (first_found test rows (i + 1) n) ≡ cond t (Some (i, row_of rows' i)) (first_found test' rows' (i + 1) n)
+    by_test true h rest = ap (λ (row : Filter). Some (i, row)) (same i h)
     by_test false h rest = rest
 
 -- ---- the search, a place at a time
@@ -97,13 +96,13 @@ module _ (s : Rows) (q : Question) (rows : List Filter) where
   unfolding search_of
   search_begins = refl
 
-  pub search_hit : (i : ℕ) → i < q.to → row_answers s q (row_of rows i) ≡ true → search_from s q rows i ≡ At i (row_of rows i)
+  pub search_hit : (i : ℕ) → i < q.to → row_answers s q (row_of rows i) ≡ true → search_from s q rows i ≡ Some (i, row_of rows i)
   search_hit = first_hit (row_answers s q) rows q.to
 
   pub search_next : (i : ℕ) → i < q.to → row_answers s q (row_of rows i) ≡ false → search_from s q rows i ≡ search_from s q rows (i + 1)
   search_next = first_next (row_answers s q) rows q.to
 
-  pub search_over : (i : ℕ) → q.to ≤ i → search_from s q rows i ≡ Nothing
+  pub search_over : (i : ℕ) → q.to ≤ i → search_from s q rows i ≡ None
   search_over = first_over (row_answers s q) rows q.to
 
   pub search_past : (i n : ℕ) → i + n ≤ q.to → ((j : ℕ) → i ≤ j → j < i + n → row_answers s q (row_of rows j) ≡ false) → search_from s q rows i ≡ search_from s q rows (i + n)
@@ -115,18 +114,18 @@ module _ (s : Rows) (q : Question) (rows : List Filter) where
   asks_to : (i k : ℕ) → i ≤ k → k < i + (q.to - i) → k < q.to
   asks_to i k l u = omega (arith, l, u)
 
-  pub search_finds : (k : ℕ) (row : Filter) → search_of s q rows ≡ At k row → Finds (row_answers s q) rows q.from q.to k row
+  pub search_finds : (k : ℕ) (row : Filter) → search_of s q rows ≡ Some (k, row) → Finds (row_answers s q) rows q.from q.to k row
   unfolding search_of
   search_finds k row e =
       let f = first_finds (row_answers s q) rows q.from (q.to - q.from) k row e in
       record { low = f.low; high = asks_to q.from k f.low f.high; there = f.there; passes = f.passes; first = f.first }
 
-  pub search_nothing : search_of s q rows ≡ Nothing → (j : ℕ) → q.from ≤ j → j < q.to → row_answers s q (row_of rows j) ≡ false
+  pub search_nothing : search_of s q rows ≡ None → (j : ℕ) → q.from ≤ j → j < q.to → row_answers s q (row_of rows j) ≡ false
   unfolding search_of
   search_nothing e j l u = first_nothing (row_answers s q) rows q.from (q.to - q.from) e j l (omega (arith, l, u))
 
   -- and so no other place is found
-  pub search_only : (i : ℕ) → q.from ≤ i → i < q.to → row_answers s q (row_of rows i) ≡ true → ((j : ℕ) → q.from ≤ j → j < i → row_answers s q (row_of rows j) ≡ false) → search_of s q rows ≡ At i (row_of rows i)
+  pub search_only : (i : ℕ) → q.from ≤ i → i < q.to → row_answers s q (row_of rows i) ≡ true → ((j : ℕ) → q.from ≤ j → j < i → row_answers s q (row_of rows j) ≡ false) → search_of s q rows ≡ Some (i, row_of rows i)
   search_only i low high hits none =
       sym search_begins ∙ search_past q.from (i - q.from) (omega (arith, low, high)) (λ j l u. none j l (omega (arith, u, low)))
       ∙ ap (search_from s q rows) (reached q.from low) ∙ search_hit i high hits
@@ -135,7 +134,7 @@ module _ (s : Rows) (q : Question) (rows : List Filter) where
       reached k h = omega (arith, h)
 
   -- one place, of which nothing is asked
-  pub search_one : q.asks ≡ Any → q.to ≡ q.from + 1 → search_of s q rows ≡ At q.from (row_of rows q.from)
+  pub search_one : q.asks ≡ Any → q.to ≡ q.from + 1 → search_of s q rows ≡ Some (q.from, row_of rows q.from)
   search_one asks to = sym search_begins ∙ search_hit q.from (omega (arith, to)) (answers_asked s (row_of rows q.from) q Any asks)
 
 -- ---- the search depends on the rows' answers alone

@@ -1,7 +1,8 @@
 -- What a frame does to the flags of a gate: each is set by its own drop alone, and only if its block is enabled; no frame lifts one.
-use Rattle.std.specs.Prelude.{ℕ, Bool, true, false, ◌||◌, ◌&&◌, Option, ◌≡◌, refl, eqb}
+use Rattle.std.specs.Prelude.{ℕ, true, ◌||◌, ◌&&◌, Option, ◌≡◌, refl, eqb}
 use mathlib.Core.List.{List, [], ◌∷◌}
 use Rattle.std.proofs.Common.{◌∙◌}
+use Rattle.std.proofs.Math.Bool.{or-false, or-true}
 use Rattle.gate.specs.declared.Entry.{Entry}
 use Rattle.gate.specs.declared.Found.{Found}
 use Rattle.gate.specs.declared.Gate.{Gate}
@@ -10,31 +11,23 @@ use Rattle.gate.specs.declared.Outcome.TheVariants.{Blocked}
 use Rattle.gate.specs.Meaning.{gate_number_of, gate_answer, gate_step_of, Frame, gate_after}
 use Rattle.gate.proofs.Cases.{step_blocked, Way, blocked, closed, exceeded, free, counted, step_way}
 
-or_false : (b : Bool) → b ≡ (b || false)
-or_false true = refl
-or_false false = refl
-
-or_right : (a b : Bool) → b ≡ true → (a || b) ≡ true
-or_right true b e = refl
-or_right false b e = e
-
 -- ---- one frame
 module _ (g : Gate) where
   way_invalid_receive : (h : Option Found) (n : ℕ) (r : Stepped) → Way g h n r
       → r.gate.invalid_receive_flag ≡ (g.invalid_receive_flag || (eqb (gate_number_of r.outcome) 4 && g.invalid_receive_block))
-  way_invalid_receive h n r blocked = or_false _
+  way_invalid_receive h n r blocked = rw or-false
   way_invalid_receive h n r closed = refl
-  way_invalid_receive h n r exceeded = or_false _
-  way_invalid_receive h n r (free p u) = or_false _
-  way_invalid_receive h n r (counted f e l) = or_false _
+  way_invalid_receive h n r exceeded = rw or-false
+  way_invalid_receive h n r (free p u) = rw or-false
+  way_invalid_receive h n r (counted f e l) = rw or-false
 
   way_octets : (h : Option Found) (n : ℕ) (r : Stepped) → Way g h n r
       → r.gate.octets_flag ≡ (g.octets_flag || (eqb (gate_number_of r.outcome) 5 && g.octets_block))
-  way_octets h n r blocked = or_false _
-  way_octets h n r closed = or_false _
+  way_octets h n r blocked = rw or-false
+  way_octets h n r closed = rw or-false
   way_octets h n r exceeded = refl
-  way_octets h n r (free p u) = or_false _
-  way_octets h n r (counted f e l) = or_false _
+  way_octets h n r (free p u) = rw or-false
+  way_octets h n r (counted f e l) = rw or-false
 
   module _ (es : List Entry) (t n : ℕ) where
     -- drop 4 sets the invalid-receive flag, and nothing else does
@@ -50,7 +43,7 @@ module _ (g : Gate) where
     step_invalid_receive_blocks e = step_blocked g es t n (rw e)
 
     pub step_octets_blocks : g.octets_flag ≡ true → gate_step_of g es t n ≡ gate_answer g Blocked
-    step_octets_blocks e = step_blocked g es t n (or_right g.invalid_receive_flag g.octets_flag e)
+    step_octets_blocks e = step_blocked g es t n (rw (e, or-true))
 
 -- ---- every run of frames, whatever their times and lengths
 module _ (es : List Entry) where

@@ -2,16 +2,18 @@
 use Rattle.std.specs.Prelude.{ℕ, ◌+◌, ◌≤◌, ◌<◌, true, false, Option, Some, ◌≡◌}
 use mathlib.Core.List.{List, [], ◌∷◌}
 use Rattle.std.proofs.Math.Path.{refl, ap}
-use Rattle.std.proofs.Common.{sym, zero-add, lt-ltb, le-ltb}
+use Rattle.std.proofs.Common.{inl, inr, sym, zero-add, lt-ltb, le-ltb}
 use native.Mathlib.Omega.{arith}
 use Rattle.std.proofs.Math.Nat.{add-zero, sub-zero}
+use Rattle.std.proofs.lemmas.Bool.{cases_lt}
+use Rattle.std.proofs.lemmas.Option.{same_Some}
 use Rattle.gate.specs.declared.Entry.{Entry}
 use Rattle.gate.specs.declared.Found.{Found}
 use Rattle.gate.specs.declared.Gate.{Gate}
 use Rattle.gate.specs.declared.Stepped.{Stepped}
 use Rattle.gate.specs.Meaning.{no_limit, spent_of, left_of, in_force_of, gate_step_of, Frame, Ordered, next, in_interval, octets_passed, passed_in}
-use Rattle.gate.proofs.Cases.{spent_same, spent_other, here_same, Way, blocked, closed, exceeded, free, counted, step_way}
-use Rattle.gate.proofs.Times.{lt_or, in_force_begun, in_force_constant}
+use Rattle.gate.proofs.Cases.{spent_same, spent_other, Way, blocked, closed, exceeded, free, counted, step_way}
+use Rattle.gate.proofs.Times.{in_force_begun, in_force_constant}
 
 -- ---- one frame
 
@@ -43,7 +45,7 @@ module _ (f : Found) (limited : f.entry.maximum ≡ no_limit → ⊥) where
   way_left g n r exceeded = add-zero _
   way_left g n r (free p u) = absurd (limited (u f refl))
   way_left g n r (counted f' e l) =
-      let j = here_same f f' e in
+      let j = same_Some f f' e in
       let s = ap (λ (x : Found). x.start) j in
       let m = ap (λ (x : Found). x.entry.maximum) j in
       let old : spent_of g f'.start ≡ spent_of g f.start = ap (λ (x : ℕ). spent_of g x) (sym s) in
@@ -83,11 +85,13 @@ module _ (f : Found) (limited : f.entry.maximum ≡ no_limit → ⊥) where
         let is' : in_force_of es g'.base f.start ≡ Some f = rw (way_base g _ _ _ way) is in
         let old' : g'.since ≤ t = way_since g _ _ t _ (λ f' e. in_force_begun es g.base t f' e) (omega arith) way in
         let rest = passed_at_most_left g' t more is' old' o in
-        lt_or t f.start
-        (λ early. rw (within_early t early) (omega (arith, left_whole g f (λ e. omega arith), left_whole g' f (λ e. omega arith))))
-        (λ begun. lt_or t (f.start + f.entry.interval)
-        (λ lasts. rw (within_inside t begun lasts) (omega (arith, step_left g t a.octets (in_force_constant es g.base f.start f is t begun lasts))))
-        (λ past. rw (within_past t past) (omega (arith, passed_past g' t more past o))))
+        elim (cases_lt t f.start) [
+          | inl early ↦ rw (within_early t early) (omega (arith, left_whole g f (λ e. omega arith), left_whole g' f (λ e. omega arith)))
+          | inr begun ↦ elim (cases_lt t (f.start + f.entry.interval)) [
+            | inl lasts ↦ rw (within_inside t begun lasts) (omega (arith, step_left g t a.octets (in_force_constant es g.base f.start f is t begun lasts)))
+            | inr past ↦ rw (within_past t past) (omega (arith, passed_past g' t more past o))
+          ]
+        ]
 
 -- and so never more than its maximum
 pub passed_at_most : (es : List Entry) (g : Gate) (f : Found) (u : ℕ) (frames : List Frame) → in_force_of es g.base f.start ≡ Some f → (f.entry.maximum ≡ no_limit → ⊥) → g.since ≤ u → Ordered u frames

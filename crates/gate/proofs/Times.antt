@@ -1,12 +1,13 @@
 -- What `in_force_of` means: from the base time on exactly one entry is in force, the one in whose interval the time falls.
 use Rattle.std.specs.Prelude.{ℕ, zero, suc, ◌+◌, ◌-◌, ◌*◌, ◌/◌, ◌%◌, ◌≤◌, ◌<◌, Bool, true, false, Some, None, List, [], ◌∷◌, ◌≡◌, refl, ltb, length, get_or}
-use Rattle.std.proofs.Common.{sym, ap, ◌∙◌, arith, zero-add, add-zero, mod-lt, mod-eq_of_lt, div-add-mod', lt-ltb, le-ltb, ltb-true, ltb-false}
+use Rattle.std.proofs.Common.{inl, inr, sym, ap, ◌∙◌, arith, zero-add, add-zero, mod-lt, mod-eq_of_lt, div-add-mod', lt-ltb, le-ltb, ltb-true, ltb-false}
 use Rattle.std.proofs.Math.Nat.{mul-add-mod_self_right}
+use Rattle.std.proofs.lemmas.Bool.{cases_lt}
+use Rattle.std.proofs.lemmas.Option.{same_Some, none-some}
 use Rattle.gate.specs.declared.Entry.{Entry}
 use Rattle.gate.specs.declared.Found.{Found}
 use Rattle.gate.specs.Meaning.{entry_at, entries_from, entries_in, entries_of, cycle_of, found_of, in_force_of}
 use Rattle.gate.proofs.Walk.{in_force_early, in_force_later}
-use Rattle.gate.proofs.Cases.{here_same}
 use Rattle.sizes.specs.Meaning.{entry_octets}
 
 abbrev pub no_entry : Entry
@@ -81,13 +82,6 @@ unfolding found_of cycle_of
 found_zero t [] i x h = refl
 found_zero t (e ∷ es) i x h = rw (le-ltb x e.interval (omega arith)) (found_zero t es (suc i) (x - e.interval) (omega arith))
 
--- a number is below another, or not
-pub lt_or : (a b : ℕ) {P : Type 0} → (a < b → P) → (b ≤ a → P) → P
-lt_or a b {P} f g = by (ltb a b) refl where
-  by : (t : Bool) → ltb a b ≡ t → P
-  by true q = f (ltb-true a b q)
-  by false q = g (ltb-false a b q)
-
 -- ---- over all cycles
 module _ (es : List Entry) (base t : ℕ) where
   -- from the base time on, some entry is in force
@@ -113,7 +107,7 @@ module _ (es : List Entry) (base t : ℕ) where
   -- there is no other
   pub holds_once : (q k q' k' : ℕ) → Holds es base t q k → Holds es base t q' k' → (k ≡ k') × (begins_of es base q k ≡ begins_of es base q' k')
   holds_once q k q' k' h h' =
-      let j = here_same _ _ (sym (holds_in_force q k h) ∙ holds_in_force q' k' h') in
+      let j = same_Some _ _ (sym (holds_in_force q k h) ∙ holds_in_force q' k' h') in
       (ap (λ (f : Found). f.index) j, ap (λ (f : Found). f.start) j)
 
   -- exactly one entry, in one interval of one cycle, is in force at each time from the base time on
@@ -125,16 +119,16 @@ module _ (es : List Entry) (base t : ℕ) where
 
   -- nothing is ever in force where no interval has a length
   pub in_force_empty : cycle_of es ≡ 0 → in_force_of es base t ≡ None
-  in_force_empty h = lt_or t base (λ l. in_force_early es base t l) (λ l. in_force_later es base t l ∙ found_zero t es 0 _ h)
+  in_force_empty h = elim (cases_lt t base) [ inl l ↦ in_force_early es base t l | inr l ↦ in_force_later es base t l ∙ found_zero t es 0 _ h ]
 
   -- what is given holds
   pub in_force_holds : (f : Found) → in_force_of es base t ≡ Some f → (q : ℕ) × (k : ℕ) × Holds es base t q k × (f ≡ record { index = k; start = begins_of es base q k; entry = entry_no es k })
   in_force_holds f e =
-      let never : in_force_of es base t ≡ None → ⊥ = λ n. let z : ◌≡◌ {A = ℕ} 0 1 = cc in omega arith in
-      let late : base ≤ t = lt_or t base (λ l. absurd (never (in_force_early es base t l))) (λ l. l) in
-      let long : 0 < cycle_of es = lt_or 0 (cycle_of es) (λ l. l) (λ l. absurd (never (in_force_empty (omega arith)))) in
+      let never : in_force_of es base t ≡ None → ⊥ = λ n. none-some f (sym n ∙ e) in
+      let late : base ≤ t = elim (cases_lt t base) [ inl l ↦ absurd (never (in_force_early es base t l)) | inr l ↦ l ] in
+      let long : 0 < cycle_of es = elim (cases_lt 0 (cycle_of es)) [ inl l ↦ l | inr l ↦ absurd (never (in_force_empty (omega arith))) ] in
       let w = holds_some late long in
-      (w.0, w.1, w.2, here_same _ _ (sym e ∙ holds_in_force w.0 w.1 w.2))
+      (w.0, w.1, w.2, same_Some _ _ (sym e ∙ holds_in_force w.0 w.1 w.2))
 
 -- the interval has the time, and the answer is the same from its first nanosecond to its last
 module _ (es : List Entry) (base t : ℕ) (f : Found) (e : in_force_of es base t ≡ Some f) where
@@ -155,7 +149,7 @@ module _ (es : List Entry) (base t : ℕ) (f : Found) (e : in_force_of es base t
 -- two intervals that share a nanosecond are the same
 intervals_meet : (es : List Entry) (base t t' : ℕ) (f f' : Found) → in_force_of es base t ≡ Some f → in_force_of es base t' ≡ Some f'
     → (u : ℕ) → f.start ≤ u → u < f.start + f.entry.interval → f'.start ≤ u → u < f'.start + f'.entry.interval → f ≡ f'
-intervals_meet es base t t' f f' e e' u b l b' l' = here_same f f' (sym (in_force_constant es base t f e u b l) ∙ in_force_constant es base t' f' e' u b' l')
+intervals_meet es base t t' f f' e e' u b l b' l' = same_Some f f' (sym (in_force_constant es base t f e u b l) ∙ in_force_constant es base t' f' e' u b' l')
 
 -- at an interval's last boundary the next one begins: what is in force changes there and, being constant within, only there
 pub in_force_next : (es : List Entry) (base t : ℕ) (f : Found) → in_force_of es base t ≡ Some f
@@ -171,11 +165,14 @@ in_force_next es base t f e =
     let begun' = in_force_begun es base end f' n.1 in
     let lasts' = in_force_lasts es base end f' n.1 in
     let apart : f ≡ f' → ⊥ = λ j. let s = ap (λ (x : Found). x.start) j in let d = ap (λ (x : Found). x.entry.interval) j in omega arith in
-    let at-end : end ≤ f'.start = lt_or f'.start end
-    (λ h. absurd (lt_or f'.start f.start
-    (λ before. apart (intervals_meet es base t end f f' e n.1 f.start (omega arith) (omega arith) (omega arith) (omega arith)))
-    (λ after. apart (intervals_meet es base t end f f' e n.1 f'.start (omega arith) (omega arith) (omega arith) (omega arith)))))
-    (λ h. h) in
+    let at-end : end ≤ f'.start =
+    elim (cases_lt f'.start end) [
+      | inl h ↦ absurd (elim (cases_lt f'.start f.start) [
+        | inl before ↦ apart (intervals_meet es base t end f f' e n.1 f.start (omega arith) (omega arith) (omega arith) (omega arith))
+        | inr after ↦ apart (intervals_meet es base t end f f' e n.1 f'.start (omega arith) (omega arith) (omega arith) (omega arith))
+      ])
+      | inr h ↦ h
+    ] in
     (f', n.1, omega arith)
 
 -- ---- in the octets

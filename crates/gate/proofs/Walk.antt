@@ -1,5 +1,5 @@
 -- The walk over a list: its entries by their own octets, the sum of the intervals, and one turn of the search for the entry in force.
-use Rattle.std.proofs.Common.{ℕ, zero, suc, ◌+◌, ◌-◌, ◌*◌, ◌/◌, ◌%◌, ◌≤◌, ◌<◌, Some, None, List, [], ◌∷◌, ◌≡◌, refl, ap, length, map, get_or, take, drop, min, add-one, arith}
+use Rattle.std.proofs.Common.{ℕ, zero, suc, ◌+◌, ◌-◌, ◌*◌, ◌/◌, ◌%◌, ◌≤◌, ◌<◌, Some, None, List, [], ◌∷◌, ◌≡◌, refl, length, map, get_or, take, drop, min, add-one, arith}
 use Rattle.std.specs.List.{sum_by}
 use Rattle.std.specs.Simd.{first_chunks}
 use Rattle.std.proofs.lemmas.List.{drop-drop, get_or-take, get_or-drop, drop_more, drop_all}

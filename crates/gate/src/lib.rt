@@ -37,7 +37,8 @@ pub struct Entry {
     pub maximum: u64,
 }
 
-// The octets are those of the entry's record.
+// From the octets of its record.
+// Ruled out: a state other than 1 is closed; the octet maximum is read where the interval stands.
 impl From<&[u8; sizes::ENTRY]> for Entry {
     ghost from_gives = { λ octets r. r ≡ entry_in octets.now };
 

@@ -1,5 +1,5 @@
 -- What a range test that held tells, and what a meter keeps.
-use Rattle.std.specs.Prelude.{ℕ, ◌≤◌, ◌^◌, true, ◌&&◌, ◌≡◌, leb}
+use Rattle.std.specs.Prelude.{ℕ, ◌≤◌, ◌^◌, true, ◌≡◌}
 use Rattle.std.proofs.Common.{leb-true, le-leb}
 use Rattle.logic.specs.Laws.{conjuncts}
 use Rattle.bucket.specs.Meaning.{grains}

@@ -2,11 +2,12 @@
 // A record that the end of a piece cuts waits at the front of the buffer for its rest.
 #![tactic(auto)]
 
-ghost use Rattle.std.specs.Prelude.{◌≡◌, take};
-ghost use Rattle.text.specs.Meaning.{page, written};
+ghost use Rattle.std.specs.Prelude.{◌≡◌, IfErr};
+ghost use Rattle.text.specs.Meaning.{written};
 ghost use Rattle.pieces.specs.Meaning.{Kept, kept_of, Filled, complaint_of};
 
 use std::io::{Read, Write};
+use text::Page;
 
 // What the system has failed to do.
 #[derive(Clone, Copy)]
@@ -49,24 +50,29 @@ pub fn keep(buf: &mut [u8], from: usize, end: usize) -> usize
 }
 
 // Writes all of `octets`. It stops at the first write that fails or takes nothing.
-pub fn write<W: Write>(output: &mut W, octets: &[u8]) -> Result<(), Failure> {
+pub fn write<W: Write>(output: &mut W, octets: &[u8]) -> Result<(), Failure>
+    ensures { IfErr result (λ failure. failure ≡ Failure.Output) }
+{
     output.write_all(octets).map_err(|_| Failure::Output)
 }
 
 // Says what has failed.
-// Ruled out, in what is put into the buffer: the other stream named; the program not named.
-pub fn complain<W: Write>(errors: &mut W, program: &[u8], failure: Failure) -> Result<(), Failure> {
-    let mut out = [0u8; 4096];
-    let n = complaint(&mut out, program, failure);
-    write(errors, &out[..n])
+// Ruled out, in what is put on the page: the other stream named; the program not named.
+pub fn complain<W: Write>(errors: &mut W, program: &[u8], failure: Failure) -> Result<(), Failure>
+    ensures { IfErr result (λ failure. failure ≡ Failure.Output) }
+{
+    let mut page = Page::<4096>::new();
+    complaint(&mut page, program, failure);
+    write(errors, page.text())
 }
 
-fn complaint(out: &mut [u8], program: &[u8], failure: Failure) -> usize
-    ensures { page out.new result ≡ written (page out.old 0) (complaint_of program.now failure) }
+#[tactic(auto, using(text::proofs::Laws::written_append), unfolding(crate::specs::Meaning::complaint_of))]
+fn complaint<const N: usize>(page: &mut Page<N>, program: &[u8], failure: Failure)
+    ensures { page.new ≡ written page.old (complaint_of program.now failure) }
 {
-    let n = text::put_octets(out, 0, program);
+    page.put_octets(program);
     match failure {
-        Failure::Input => text::put_octets(out, n, b": standard input cannot be read\n"),
-        Failure::Output => text::put_octets(out, n, b": standard output cannot be written\n"),
+        Failure::Input => page.put_octets(b": standard input cannot be read\n"),
+        Failure::Output => page.put_octets(b": standard output cannot be written\n"),
     }
 }

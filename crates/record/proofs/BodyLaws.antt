@@ -1,5 +1,5 @@
 -- The body of a record that is read: which octets of the input it is, how many, and that none of them lies past the record's end.
-use Rattle.std.specs.Prelude.{ℕ, ◌+◌, ◌-◌, ◌≤◌, ◌<◌, Bool, List, ◌++◌, ◌≡◌, length, get_or, take, drop}
+use Rattle.std.specs.Prelude.{ℕ, ◌+◌, ◌-◌, ◌≤◌, ◌<◌, Bool, List, ◌++◌, ◌≡◌, length, get_or, take, drop, Ok}
 use Rattle.std.proofs.Common.{ap, sym, ◌∙◌, arith, length-append, length-drop, length-take-le, get_or-take, get_or-drop}
 use borrow.Author.Tests.{le-leb}
 use Rattle.std.proofs.lemmas.List.{take-append-le, drop-append-le}
@@ -43,7 +43,7 @@ read_body v started r used e =
     (body_is v.octets used u.0 u.1, body_length v.octets used u.0 u.1)
 
 -- of a gate entry, those that an entry keeps: eleven
-pub read_entry_body : (s : List ℕ) (started : Bool) (r : GateEntryRecord) (used : ℕ) → read_of s started ≡ Taken (GateEntry r) used
+pub read_entry_body : (s : List ℕ) (started : Bool) (r : GateEntryRecord) (used : ℕ) → read_of s started ≡ Ok (GateEntry r, used)
     → (used ≡ 1 + entry_octets) × ((body_in s used ≡ take entry_octets (drop 1 s)) × (length (body_in s used) ≡ entry_octets))
 read_entry_body s started r used e =
     let u = read_uses s started (GateEntry r) used e in

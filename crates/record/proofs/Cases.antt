@@ -1,125 +1,82 @@
--- The cases of `read_of`, from the facts that the code has in hand.
-use Rattle.std.specs.Prelude.{ℕ, zero, suc, ◌+◌, ◌-◌, ◌*◌, ◌≤◌, ◌<◌, Bool, true, false, not, ◌≡◌, length, get_or, drop}
-use mathlib.Core.List.{List, [], ◌∷◌}
+-- The cases of `read_of` and of `body_of`, from the facts that the code has in hand.
+use Rattle.std.specs.Prelude.{ℕ, ◌+◌, ◌-◌, ◌≤◌, ◌<◌, Bool, true, false, cond, List, [], ◌∷◌, ◌≡◌, refl, length, get_or, take, drop, Some, None, ok_or, Ok, Err}
 use Rattle.std.proofs.Math.Option.{Option, none, some}
-use Rattle.std.proofs.Math.Path.{refl, sym}
-use Rattle.std.proofs.Common.{ap, subst, ◌∙◌, arith, add-zero}
-use Rattle.std.proofs.Math.Decide.{ℕ_discrete}
+use Rattle.std.proofs.Common.{ap, sym, ◌∙◌, arith, add-zero}
 use borrow.Author.Tests.{le-leb, lt-leb}
-use Rattle.std.proofs.Math.ListN.{take, get_or-eq_default}
-use Rattle.record.specs.Meaning.{View, body_in, body_of, Kind, kinds, kind_of, number_at, record_length, length_in, in_turn_in, whole_in, read_as, read_of}
-use Rattle.record.specs.declared.Refusal.TheVariants.{CutShort, UnknownKind, OutOfTurn}
+use Rattle.record.specs.declared.Record.{Record}
+use Rattle.record.specs.declared.Refusal.{Refusal}
+use Rattle.record.specs.declared.Refusal.TheVariants.{CutShort, OutOfRange, OutOfTurn}
+use Rattle.record.specs.Meaning.{View, body_in, body_of, Kind, kind_of, known_as, kind_said, fields_of, fields_in_range, values_at, record_of, record_length, in_turn_of, Reading, whole_of, read_as, read_of}
+use Rattle.record.specs.Steps.{ranged_in}
 
 -- a record of a kind has an octet at least
 pub length_positive : (k : Kind) → 1 ≤ record_length k
 length_positive k = omega arith
 
--- ---- octets that are no kind
-
-no_kind : (n : ℕ) → (0 < n → 10 < n) → kind_of n ≡ none
-no_kind zero h = refl
-no_kind (suc n) h = get_or-eq_default kinds none (h (omega arith))
-
--- n is none of 1 to k, as a match has it
-abbrev pub NoneTo : ℕ → ℕ → Type 0
-NoneTo zero n = Unit {0}
-NoneTo (suc k) n = NoneTo k n × (n ≡ suc k → ⊥)
-
-past : (k n : ℕ) → NoneTo k n → 0 < n → k < n
-past zero n o h = h
-past (suc k) n o h = omega (arith, past k n o.0 h, o.1)
-
-pub kind_none : (n : ℕ) → NoneTo 10 n → kind_of n ≡ none
-kind_none n o = no_kind n (past 10 n o)
-
--- ---- the turn of an octet
-
--- P of the k numbers from m on
-abbrev Each : (ℕ → Type 0) → ℕ → ℕ → Type 0
-Each P m zero = Unit {0}
-Each P m (suc k) = P m × Each P (suc m) k
-
-each_at : (P : ℕ → Type 0) (m k : ℕ) → Each P m k → (n : ℕ) → m ≤ n → n < m + k → P n
-each_at P m zero all n l h = absurd (omega arith)
-each_at P m (suc k) all n l h = by_first (ℕ_discrete n m) (λ q. each_at P (suc m) k all.1 n q (omega arith))
-  where
-    by_first : Dec (n ≡ m) → (suc m ≤ n → P n) → P n
-    by_first (yes e) more = subst P (sym e) all.0
-    by_first (no e) more = more (omega (arith, e))
-
-module _ (n : ℕ) (started : Bool) where
-  pub turn_before : 1 ≤ n → n ≤ 8 → in_turn_in (kind_of n) started ≡ not started
-  turn_before l h = each_at (λ i. in_turn_in (kind_of i) started ≡ not started) 1 8 (refl, (refl, (refl, (refl, (refl, (refl, (refl, (refl, tt)))))))) n l (omega arith)
-
-  pub turn_after : 9 ≤ n → n ≤ 10 → in_turn_in (kind_of n) started ≡ started
-  turn_after l h = each_at (λ i. in_turn_in (kind_of i) started ≡ started) 9 2 (refl, (refl, tt)) n l (omega arith)
-
-  pub turn_never : (0 < n → 10 < n) → in_turn_in (kind_of n) started ≡ false
-  turn_never h = ap (λ (o : Option Kind). in_turn_in o started) (no_kind n h)
-
 -- ---- the ways to read
 
-module _ (started : Bool) (s : List ℕ) where
-  unknown_as : (o : Option Kind) → length_in o ≡ 0 → read_as o started s ≡ Err UnknownKind
-  unfolding read_as
-  unknown_as none e = refl
-  unknown_as (some k) e = absurd (omega (arith, length_positive k))
+module _ (s : List ℕ) (started : Bool) where
+  pub read_empty : length s < 1 → read_of s started ≡ Err CutShort
+  unfolding read_of
+  read_empty h = at_length s h
+    where
+      at_length : (t : List ℕ) → length t < 1 → read_of t started ≡ Err CutShort
+      at_length [] l = refl
+      at_length (n ∷ t) l = absurd (omega arith)
 
-  cut_as : (o : Option Kind) → (length_in o ≡ 0 → ⊥) → length s < length_in o → read_as o started s ≡ Err CutShort
-  unfolding read_as
-  cut_as none n h = absurd (n refl)
-  cut_as (some k) n h = rw (lt-leb (record_length k) (length s) h)
+  module _ (some_octet : 1 ≤ length s) where
+    -- reading goes by what the first octet says
+    read_first : read_of s started ≡ read_as (kind_of (get_or s 0 0)) started s
+    unfolding read_of
+    read_first = at_length s some_octet
+      where
+        at_length : (t : List ℕ) → 1 ≤ length t → read_of t started ≡ read_as (kind_of (get_or t 0 0)) started t
+        at_length [] l = absurd (omega arith)
+        at_length (n ∷ t) l = refl
 
-  turn_as : (o : Option Kind) → (length_in o ≡ 0 → ⊥) → length_in o ≤ length s → in_turn_in o started ≡ false → read_as o started s ≡ Err OutOfTurn
-  unfolding read_as
-  turn_as none n h e = absurd (n refl)
-  turn_as (some k) n h e = rw (le-leb (record_length k) (length s) h, e)
+    as_unknown : (o : Option Kind) (x : Refusal) → known_as o ≡ Err x → read_as o started s ≡ Err x
+    unfolding read_as
+    as_unknown none x e = cc
+    as_unknown (some k) x e = cc
 
-  whole_as : (o : Option Kind) → (length_in o ≡ 0 → ⊥) → length_in o ≤ length s → in_turn_in o started ≡ true → read_as o started s ≡ whole_in o s
-  unfolding read_as
-  whole_as none n h e = absurd (n refl)
-  whole_as (some k) n h e = rw (le-leb (record_length k) (length s) h, e)
+    pub read_unknown : (x : Refusal) → kind_said (get_or s 0 0) ≡ Err x → read_of s started ≡ Err x
+    read_unknown x e = read_first ∙ as_unknown (kind_of (get_or s 0 0)) x e
 
--- eight octets, in two halves
-pub number_halves : (s : List ℕ) (at high low : ℕ) → high ≡ number_at s at 4 → low ≡ number_at s (at + 4) 4 → high * 4_294_967_296 + low ≡ number_at s at 8
-number_halves s at high low h l =
-    let five : at + 5 ≡ at + 4 + 1 = omega arith in
-    let six : at + 6 ≡ at + 4 + 2 = omega arith in
-    let seven : at + 7 ≡ at + 4 + 3 = omega arith in
-    rw (h, l, five, six, seven) (omega arith)
+    as_known : (o : Option Kind) (k : Kind) → known_as o ≡ Ok k → read_as o started s ≡ read_as (some k) started s
+    as_known none k e = cc
+    as_known (some j) k e = cc
 
--- an octet that is the number k says what k says
-pub enough : (n k m : ℕ) → n ≡ k → length_in (kind_of n) ≤ m → length_in (kind_of k) ≤ m
-enough n k m e h = rw e at h
+    module _ (k : Kind) (said : kind_said (get_or s 0 0) ≡ Ok k) where
+      read_known : read_of s started ≡ read_as (some k) started s
+      read_known = read_first ∙ as_known (kind_of (get_or s 0 0)) k said
 
-pub whole_is : (n k : ℕ) (s : List ℕ) (r : Reading) → n ≡ k → r ≡ whole_in (kind_of k) s → r ≡ whole_in (kind_of n) s
-whole_is n k s r e h = rw e h
+      pub read_cut : length s < record_length k → read_of s started ≡ Err CutShort
+      unfolding read_as
+      read_cut h = read_known ∙ rw (lt-leb (record_length k) (length s) h)
 
-pub read_empty : (s : List ℕ) (started : Bool) → length s ≡ 0 → read_of s started ≡ Err CutShort
-unfolding read_of
-read_empty [] started e = refl
-read_empty (n ∷ s) started e = absurd (omega arith)
+      module _ (whole : record_length k ≤ length s) where
+        pub read_turn : in_turn_of k started ≡ false → read_of s started ≡ Err OutOfTurn
+        unfolding read_as
+        read_turn t = read_known ∙ rw (le-leb (record_length k) (length s) whole, t)
 
--- an octet at least: reading goes by what the first one says
-pub read_first : (s : List ℕ) (started : Bool) → (length s ≡ 0 → ⊥) → read_of s started ≡ read_as (kind_of (get_or s 0 0)) started s
-unfolding read_of
-read_first [] started h = absurd (h refl)
-read_first (n ∷ s) started h = refl
+        module _ (turn : in_turn_of k started ≡ true) where
+          read_whole : read_of s started ≡ whole_of k s
+          unfolding read_as
+          read_whole = read_known ∙ rw (le-leb (record_length k) (length s) whole, turn)
 
-module _ (s : List ℕ) (started : Bool) (some-octet : length s ≡ 0 → ⊥) where
-  pub read_unknown : (u : ℕ) → u ≡ length_in (kind_of (get_or s 0 0)) → u ≡ 0 → read_of s started ≡ Err UnknownKind
-  read_unknown u e z = read_first s started some-octet ∙ unknown_as _ s (kind_of (get_or s 0 0)) (sym e ∙ z)
+          pub read_out_of_range : (x : Refusal) → ok_or (ranged_in k s) OutOfRange ≡ Err x → read_of s started ≡ Err x
+          read_out_of_range x e = read_whole ∙ refused (fields_in_range k (values_at s 1 (fields_of k))) (record_of k (values_at s 1 (fields_of k))) e
+            where
+              refused : (b : Bool) (q : Record) → ok_or (cond b (Some q) None) OutOfRange ≡ Err x → ◌≡◌ {A = Reading} (cond b (Ok (q, record_length k)) (Err OutOfRange)) (Err x)
+              refused true q e = cc
+              refused false q e = cc
 
-  module _ (u : ℕ) (e : u ≡ length_in (kind_of (get_or s 0 0))) (known : u ≡ 0 → ⊥) where
-    pub read_cut : length s < u → read_of s started ≡ Err CutShort
-    read_cut h = read_first s started some-octet ∙ cut_as _ s (kind_of (get_or s 0 0)) (λ z. known (e ∙ z)) (rw e at h)
-
-    module _ (whole : u ≤ length s) where
-      pub read_turn : in_turn_in (kind_of (get_or s 0 0)) started ≡ false → read_of s started ≡ Err OutOfTurn
-      read_turn t = read_first s started some-octet ∙ turn_as _ s (kind_of (get_or s 0 0)) (λ z. known (e ∙ z)) (rw e at whole) t
-
-      pub read_whole : in_turn_in (kind_of (get_or s 0 0)) started ≡ true → read_of s started ≡ whole_in (kind_of (get_or s 0 0)) s
-      read_whole t = read_first s started some-octet ∙ whole_as _ s (kind_of (get_or s 0 0)) (λ z. known (e ∙ z)) (rw e at whole) t
+          pub read_taken : (r : Record) → ok_or (ranged_in k s) OutOfRange ≡ Ok r → read_of s started ≡ Ok (r, record_length k)
+          read_taken r e = read_whole ∙ taken (fields_in_range k (values_at s 1 (fields_of k))) (record_of k (values_at s 1 (fields_of k))) e
+            where
+              taken : (b : Bool) (q : Record) → ok_or (cond b (Some q) None) OutOfRange ≡ Ok r → ◌≡◌ {A = Reading} (cond b (Ok (q, record_length k)) (Err OutOfRange)) (Ok (r, record_length k))
+              taken true q e = cc
+              taken false q e = cc
 
 -- ---- the body
 

@@ -1,6 +1,6 @@
 -- What follows from the definition of reading: it depends on nothing past the record's end; what is read encodes to the same octets; no record
 -- of one kind is read as another.
-use Rattle.std.specs.Prelude.{ℕ, zero, suc, ◌+◌, ◌*◌, ◌/◌, ◌%◌, ◌≤◌, ◌<◌, Bool, true, false, cond, ◌&&◌, List, [], ◌∷◌, ◌++◌, ◌≡◌, refl, leb, eqb, length, get_or, take, drop}
+use Rattle.std.specs.Prelude.{ℕ, zero, suc, ◌+◌, ◌*◌, ◌/◌, ◌%◌, ◌≤◌, ◌<◌, Bool, true, false, cond, ◌&&◌, List, [], ◌∷◌, ◌++◌, ◌≡◌, refl, leb, eqb, length, get_or, take, drop, Ok, Err}
 use Rattle.std.proofs.Math.Option.{Option, none, some}
 use Rattle.std.proofs.Common.{sym, ap, ◌∙◌, arith, length-append, length-drop, take-suc, drop-cons, take-add, drop-drop, get_or-drop}
 use borrow.Author.Tests.{le-leb, leb-true, eqb-true, not-true}
@@ -9,7 +9,7 @@ use Rattle.logic.specs.Laws.{both}
 use Rattle.record.specs.declared.Record.{Record}
 use Rattle.record.specs.declared.Refusal.{Refusal}
 use Rattle.record.specs.declared.Refusal.TheVariants.{CutShort, OutOfRange, OutOfTurn}
-use Rattle.record.specs.Meaning.{Kind, port, filter, gate, gate_entry, meter, group, scheduler, start, arrival, clear, kinds, kind_of, Turn, before, after, Field, octet_of, turn_of, fields_of, widths_of, fields_in_range, number_at, values_at, big_endian_of, encoded_of, record_of, record_length, length_in, comes, in_turn_of, in_turn_in, read_as, read_of}
+use Rattle.record.specs.Meaning.{Kind, port, filter, gate, gate_entry, meter, group, scheduler, start, arrival, clear, kinds, kind_of, known_as, Turn, before, after, Field, octet_of, turn_of, fields_of, widths_of, fields_in_range, number_at, values_at, big_endian_of, encoded_of, record_of, record_length, length_in, comes, in_turn_of, in_turn_in, Reading, read_as, read_of}
 use Rattle.record.proofs.Sorts.{turn_in, Setup}
 use Rattle.record.proofs.Cases.{length_positive, read_turn}
 
@@ -33,7 +33,7 @@ module _ (s t : List ℕ) where
 
 -- ---- what a taken record is
 
-not_taken : {f : Refusal} {r : Record} {u : ℕ} → Err f ≡ Ok (r, u) → ⊥
+not_taken : {f : Refusal} {r : Record} {u : ℕ} → ◌≡◌ {A = Reading} (Err f) (Ok (r, u)) → ⊥
 not_taken e = let z : ◌≡◌ {A = ℕ} 0 1 = cc in omega arith
 
 none_some : (k : Kind) → none ≡ some k → ⊥
@@ -42,6 +42,11 @@ none_some k e = let z : ◌≡◌ {A = ℕ} 0 1 = cc in omega arith
 cond_taken : (b : Bool) (x : Reading) (f : Refusal) (r : Record) (u : ℕ) → cond b x (Err f) ≡ Ok (r, u) → (b ≡ true) × (x ≡ Ok (r, u))
 cond_taken true x f r u e = (refl, e)
 cond_taken false x f r u e = absurd (not_taken e)
+
+pub taken_parts : (q r : Record) (u v : ℕ) → ◌≡◌ {A = Reading} (Ok (q, u)) (Ok (r, v)) → (q ≡ r) × (u ≡ v)
+taken_parts q r u v e =
+    let p : ◌≡◌ {A = Record × ℕ} (q, u) (r, v) = cc in
+    (ap (λ (t : Record × ℕ). t.0) p, ap (λ (t : Record × ℕ). t.1) p)
 
 -- the octets s say this record: their first says its kind, the kind's octets are there and in their turn, and the fields are in range
 pub record Says (s : List ℕ) (started : Bool) (r : Record) (used : ℕ) : Type 0 where
@@ -61,8 +66,8 @@ module _ (s : List ℕ) (started : Bool) (r : Record) (used : ℕ) where
       let a = cond_taken (leb (record_length k) (length s)) _ CutShort r used e in
       let b = cond_taken (in_turn_of k started) _ OutOfTurn r used a.1 in
       let c = cond_taken (fields_in_range k (values_at s 1 (fields_of k))) _ OutOfRange r used b.1 in
-      let d : Taken (record_of k (values_at s 1 (fields_of k))) (record_length k) ≡ Ok (r, used) = c.1 in
-      record { kind = k; said = q; whole = leb-true _ _ a.0; in_turn = b.0; in_range = c.0; is = cc; uses = cc }
+      let d = taken_parts _ r _ used c.1 in
+      record { kind = k; said = q; whole = leb-true _ _ a.0; in_turn = b.0; in_range = c.0; is = d.0; uses = d.1 }
 
 pub read_says : (s : List ℕ) (started : Bool) (r : Record) (used : ℕ) → read_of s started ≡ Ok (r, used) → Says s started r used
 unfolding read_of
@@ -177,9 +182,7 @@ turned after e = sym e
 pub read_late : (s : List ℕ) (r : Record) (used : ℕ) → read_of s false ≡ Ok (r, used) → read_of s true ≡ Err OutOfTurn
 read_late s r used e =
     let y = read_says s false r used e in
-    let some-octet = length_positive y.kind in
-    read_turn s true (λ z. omega (arith, y.whole, some-octet, z)) (record_length y.kind) (sym (ap length_in y.said)) (λ z. omega (arith, some-octet, z)) y.whole
-    (ap (λ (o : Option Kind). in_turn_in o true) y.said ∙ turned (turn_of y.kind) y.in_turn)
+    read_turn s true (omega (arith, length_positive y.kind, y.whole)) y.kind (ap known_as y.said) y.whole (turned (turn_of y.kind) y.in_turn)
 
 -- ---- what is read encodes to the same octets
 

@@ -1,5 +1,5 @@
 -- What a caller may rely on of a record that is read: the octets that it used, and its fields in range, as facts on numbers.
-use Rattle.std.specs.Prelude.{ℕ, ◌≤◌, Bool, true, not, ◌&&◌, ◌||◌, List, [], ◌∷◌, ◌≢◌, ◌⊎◌, ◌≡◌, refl, leb, eqb}
+use Rattle.std.specs.Prelude.{ℕ, ◌≤◌, Bool, true, not, ◌&&◌, ◌||◌, List, [], ◌∷◌, ◌≢◌, ◌⊎◌, ◌≡◌, refl, leb, eqb, Ok}
 use Rattle.std.proofs.Common.{inl, inr, ⊎_elim, subst, arith, leb-true, eqb-true, eq-eqb}
 use Rattle.sizes.specs.Meaning.{last_filter, last_port, last_gate, last_meter, last_group, last_scheduler}
 use Rattle.logic.specs.Laws.{both, either}

@@ -119,20 +119,29 @@ pub enum Record {
     Clear(ClearRecord),
 }
 
-// 01, Refusal numbers. Their numbers are `refusal_number_of`'s.
+// 01, Refusal numbers.
 #[derive(Clone, Copy)]
 pub enum Refusal {
-    CutShort,
-    UnknownKind,
-    OutOfRange,
-    OutOfTurn,
-    SetUpAlready,
-    NinthEntry,
-    Missing,
-    BurstTooSmall,
-    TimeGoesBack,
-    NotSetUp,
-    TableLength,
+    CutShort = 1,
+    UnknownKind = 2,
+    OutOfRange = 3,
+    OutOfTurn = 4,
+    SetUpAlready = 5,
+    NinthEntry = 6,
+    Missing = 7,
+    BurstTooSmall = 8,
+    TimeGoesBack = 9,
+    NotSetUp = 10,
+    TableLength = 11,
+}
+
+// Ruled out: numbers counted from 0; 3 and 4 the other way round, in the order in which they are tried.
+impl From<Refusal> for u8 {
+    ghost from_gives = { λ r n. n ≡ refusal_number_of r };
+
+    fn from(r: Refusal) -> u8 {
+        r as u8
+    }
 }
 
 // 01, Records: the kinds, each said by its octet.
@@ -203,34 +212,14 @@ impl Kind {
     }
 }
 
-// Document 01's number of a refusal.
-// Ruled out: numbers counted from 0; 3 and 4 the other way round, in the order in which they are tried.
-impl From<Refusal> for u8 {
-    ghost from_gives = { λ r n. n ≡ refusal_number_of r };
-
-    fn from(r: Refusal) -> u8 {
-        match r {
-            Refusal::CutShort => 1,
-            Refusal::UnknownKind => 2,
-            Refusal::OutOfRange => 3,
-            Refusal::OutOfTurn => 4,
-            Refusal::SetUpAlready => 5,
-            Refusal::NinthEntry => 6,
-            Refusal::Missing => 7,
-            Refusal::BurstTooSmall => 8,
-            Refusal::TimeGoesBack => 9,
-            Refusal::NotSetUp => 10,
-            Refusal::TableLength => 11,
-        }
-    }
-}
-
 // The first record of the input, and how many octets it uses, its kind included. Octets after it are not looked at.
 // Ruled out: a kind above 10 that is taken; a record out of its turn whose field out of range is named instead.
 pub fn read(input: &[u8], started: bool) -> Result<(Record, usize), Refusal>
     ensures { result ≡ read_of input.now started }
 {
-    let octet = input.first().ok_or(Refusal::CutShort)?;
+    let [octet, ..] = input else {
+        return Err(Refusal::CutShort);
+    };
     let kind = Kind::try_from(*octet)?;
     let used = kind.length();
     if input.len() < used {
@@ -246,16 +235,15 @@ pub fn read(input: &[u8], started: bool) -> Result<(Record, usize), Refusal>
 // The body of the record at the front of the input that uses so many octets, as the very part of the input that follows its kind. Every
 // refusal, by the reader or later by the stage, uses 0 octets, so that its body is the empty part at the input's front.
 // Ruled out: a body that begins with the kind; a body that is shown though the record was refused.
+#[tactic(auto, unfolding(crate::specs::Meaning::body_of, crate::specs::Meaning::body_in))]
 pub fn body(input: &[u8], used: usize) -> &[u8]
     ensures { view_of result ≡ body_of (view_of input.entry) used }
 {
-    if used == 0 {
-        return &input[..0];
+    if 1 <= used && used <= input.len() {
+        &input[1..used]
+    } else {
+        &input[..0]
     }
-    if input.len() < used {
-        return &input[..0];
-    }
-    &input[1..used]
 }
 
 impl Record {

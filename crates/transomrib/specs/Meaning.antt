@@ -1,14 +1,11 @@
 -- What C sees: an answer as a struct of numbers, and the counters and flags under the numbers that include/transomrib.h names.
-use Rattle.std.specs.Prelude.{ℕ, List, cond, eqb, ltb}
+use Rattle.std.specs.Prelude.{ℕ, List, cond, eqb, ltb, is_some, unwrap_or}
 use mir.Val.{bool_byte}
 use Rattle.sizes.specs.Meaning.{filter_count, gate_count, meter_count, port_count}
 use Rattle.record.specs.Meaning.{refusal_number_of}
 use Rattle.bank.specs.Meaning.{Rows, port, counters, gate, meter}
 use Rattle.filter.specs.declared.Filter.{Filter}
-use Rattle.verdict.specs.declared.Verdict.{Verdict}
-use Rattle.verdict.specs.declared.Verdict.TheVariants.{Refused, Taken, Passed, Dropped}
-use Rattle.verdict.specs.declared.Answer.{Answer}
-use Rattle.verdict.specs.Meaning.{drop_number_of}
+use Rattle.verdict.specs.Meaning.{Verdict, Refused, Taken, Passed, Dropped, Answer, drop_number_of}
 use Rattle.stage.specs.Meaning.{Bridge, Took, bridge, take_of}
 use Rattle.transomrib.specs.declared.Reply.{Reply}
 use Rattle.gate.specs.declared.Gate.{Gate}
@@ -27,14 +24,14 @@ spelled_of used (Refused r) = short_reply used 0 (refusal_number_of r)
 spelled_of used Taken = short_reply used 1 0
 spelled_of used (Passed p) =
     record {
-      eligible = p.eligible;
+      eligible = unwrap_or p.eligible 0;
       used = used;
       verdict = 2;
       number = 0;
       priority = p.priority;
       class = p.class;
       drop_mark = p.drop_mark;
-      timed = bool_byte p.timed;
+      timed = bool_byte (is_some p.eligible);
     }
 spelled_of used (Dropped d) = short_reply used 3 (drop_number_of d)
 

@@ -2,20 +2,19 @@
 #![tactic(auto)]
 
 ghost use Rattle.std.specs.Prelude.{◌≡◌};
-ghost use mir.Val.{bool_byte};
 ghost use Rattle.bank.specs.Meaning.{rows_of};
+ghost use Rattle.verdict.specs.Meaning.{answer_of};
 ghost use Rattle.stage.specs.Meaning.{bridge};
-ghost use Rattle.transomrib.specs.Meaning.{reply_of, short_reply, replied, replied_of, if_in_table, chosen_of, named_of};
+ghost use Rattle.transomrib.specs.Meaning.{reply_of, replied, replied_of, if_in_table, named_of};
 
-use bank::{Counters, Lists, Port, Words};
+use bank::{Bank, Lists};
 use filter::Filter;
-use gate::Gate;
-use meter::Meter;
-use verdict::{Answer, Verdict};
+use record::Refusal;
+use verdict::{Outcome, Taken};
 
 // An answer as numbers. A field that says nothing of the verdict is 0.
 #[repr(C)]
-#[derive(Clone, Copy)]
+#[derive(Clone, Copy, Default)]
 pub struct Reply {
     // The eligibility time, in ns.
     pub eligible: u64,
@@ -38,78 +37,66 @@ pub struct Reply {
 // Ruled out: a drop reported as a refusal of the same number; an answer to a record that leaves the bank as it was.
 pub fn transomrib_take(
     table: &mut [Filter],
-    bank: &mut Words,
+    bank: &mut Bank,
     lists: &mut Lists,
     input: &[u8],
 ) -> Reply
     ensures { replied table.new (rows_of bank.new) lists.new result ≡ replied_of (bridge table.old (rows_of bank.old) lists.old) input.now }
 {
-    let answer = stage::take(table, bank, lists, input);
-    spelled(answer)
+    Reply::from(stage::take(table, bank, lists, input))
 }
 
 // The answer as numbers.
 // Ruled out: the number of a refusal lost; a pass without its eligibility time.
-pub fn spelled(answer: Answer) -> Reply
-    ensures { result ≡ reply_of answer }
-{
-    let used = answer.used as u64;
-    let v = answer.verdict;
-    match v {
-        Verdict::Refused(r) => short(used, 0, record::number(r)),
-        Verdict::Taken => short(used, 1, 0),
-        Verdict::Passed(p) => {
-            Reply {
-                eligible: p.eligible,
-                used,
-                verdict: 2,
-                number: 0,
-                priority: p.priority,
-                class: p.class,
-                drop_mark: p.drop_mark,
-                timed: p.timed as u8,
+impl From<Result<Taken, Refusal>> for Reply {
+    ghost from_gives = { λ answer reply. reply ≡ reply_of (answer_of answer) };
+
+    fn from(answer: Result<Taken, Refusal>) -> Reply {
+        match answer {
+            Err(r) => Reply {
+                number: u8::from(r),
+                ..Reply::default()
+            },
+            Ok(Taken { used, outcome }) => {
+                let used = used as u64;
+                match outcome {
+                    Outcome::Done => Reply {
+                        used,
+                        verdict: 1,
+                        ..Reply::default()
+                    },
+                    Outcome::Passed(p) => Reply {
+                        eligible: p.eligible.unwrap_or(0),
+                        used,
+                        verdict: 2,
+                        number: 0,
+                        priority: p.priority,
+                        class: p.class,
+                        drop_mark: p.drop_mark,
+                        timed: p.eligible.is_some() as u8,
+                    },
+                    Outcome::Dropped(d) => Reply {
+                        used,
+                        verdict: 3,
+                        number: u8::from(d),
+                        ..Reply::default()
+                    },
+                }
             }
         }
-        Verdict::Dropped(d) => short(used, 3, verdict::drop_number(d)),
-    }
-}
-
-// A reply to all but a frame that passes.
-fn short(used: u64, verdict: u8, number: u8) -> Reply
-    ensures { result ≡ short_reply used verdict number }
-{
-    Reply {
-        eligible: 0,
-        used,
-        verdict,
-        number,
-        priority: 0,
-        class: 0,
-        drop_mark: 0,
-        timed: 0,
     }
 }
 
 // One counter, or a flag as 0 or 1: `what` names it (specs/Meaning.antt), `index` says whose.
 // Ruled out: the counter of filter 0 for an index past the table; PassingFrames for NotPassingFrames.
-pub fn transomrib_read(bank: &Words, what: u32, index: u32) -> u64
+#[tactic(auto, unfolding(crate::specs::Meaning::chosen_of))]
+pub fn transomrib_read(bank: &Bank, what: u32, index: u32) -> u64
     ensures { result ≡ named_of (rows_of bank.now) what index }
 {
     let i = index as usize;
-    choose(
-        what,
-        i,
-        bank::counters_at(bank, i),
-        bank::gate_at(bank, i),
-        bank::meter_at(bank, i),
-        bank::port_at(bank, i),
-    )
-}
-
-#[tactic(auto, unfolding(crate::specs::Meaning::chosen_of))]
-fn choose(what: u32, i: usize, c: Counters, g: Gate, m: Meter, p: Port) -> u64
-    ensures { result ≡ chosen_of what i c g m p }
-{
+    let c = bank.counters_at(i);
+    let g = bank.gate_at(i);
+    // Kept: the numbers are the C interface's, of `transomrib_read` in include/transomrib.h.
     match what {
         1 => in_table(i, sizes::FILTERS, c.matching),
         2 => in_table(i, sizes::FILTERS, c.passing_sdu),
@@ -117,19 +104,13 @@ fn choose(what: u32, i: usize, c: Counters, g: Gate, m: Meter, p: Port) -> u64
         4 => in_table(i, sizes::FILTERS, c.passing),
         5 => in_table(i, sizes::FILTERS, c.not_passing),
         6 => in_table(i, sizes::FILTERS, c.red),
-        7 => in_table(i, sizes::FILTERS, flag(c.oversize)),
-        8 => in_table(i, sizes::GATES, flag(g.invalid_receive_flag)),
-        9 => in_table(i, sizes::GATES, flag(g.octets_flag)),
-        10 => in_table(i, sizes::METERS, flag(m.red_flag)),
-        11 => in_table(i, sizes::PORTS, p.discarded),
+        7 => in_table(i, sizes::FILTERS, c.oversize as u64),
+        8 => in_table(i, sizes::GATES, g.invalid_receive_flag as u64),
+        9 => in_table(i, sizes::GATES, g.octets_flag as u64),
+        10 => in_table(i, sizes::METERS, bank.meter_at(i).red_flag as u64),
+        11 => in_table(i, sizes::PORTS, bank.port_at(i).discarded),
         _ => 0,
     }
-}
-
-fn flag(b: bool) -> u64
-    ensures { result ≡ bool_byte b }
-{
-    b as u64
 }
 
 // 0 past the table.

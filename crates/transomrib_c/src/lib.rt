@@ -6,7 +6,7 @@ ghost use Rattle.bank.specs.Meaning.{rows_of};
 ghost use Rattle.stage.specs.Meaning.{bridge};
 ghost use Rattle.transomrib.specs.Meaning.{replied, replied_of, named_of};
 
-use bank::{Lists, Words};
+use bank::{Bank, Lists};
 use filter::Filter;
 use transomrib::Reply;
 
@@ -15,7 +15,7 @@ use transomrib::Reply;
 #[unsafe(no_mangle)]
 pub extern "C" fn transomrib_take(
     table: &mut [Filter],
-    bank: &mut Words,
+    bank: &mut Bank,
     lists: &mut Lists,
     input: &[u8],
 ) -> Reply
@@ -27,7 +27,7 @@ pub extern "C" fn transomrib_take(
 // One counter, or a flag as 0 or 1: `what` names it, `index` says whose.
 // Ruled out: the name and the index taken for each other; that of the first object for every index.
 #[unsafe(no_mangle)]
-pub extern "C" fn transomrib_read(bank: &Words, what: u32, index: u32) -> u64
+pub extern "C" fn transomrib_read(bank: &Bank, what: u32, index: u32) -> u64
     ensures { result ≡ named_of (rows_of bank.now) what index }
 {
     transomrib::transomrib_read(bank, what, index)

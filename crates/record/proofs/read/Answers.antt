@@ -1,28 +1,38 @@
 -- `record::read` meets its contract: each way out is a case of `read_of`. Assumes nothing.
-use Rattle.std.proofs.Common.{sym, ◌∙◌}
-use Rattle.record.proofs.Cases.{read_empty, read_unknown, read_cut, read_turn, read_whole}
+use Rattle.std.specs.Prelude.{Option, ok_or}
+use Rattle.std.proofs.Common.{sym, ap, ◌∙◌}
+use Rattle.std.proofs.lemmas.Result.{err_from_is_err_and}
+use Rattle.record.specs.declared.Record.{Record}
+use Rattle.record.specs.declared.Refusal.TheVariants.{OutOfRange}
+use Rattle.record.proofs.Cases.{read_empty, read_unknown, read_cut, read_turn, read_out_of_range, read_taken}
 use Rattle.record.proofs.read.Goals as goal
 
-pub returns-then-input-eq0 : goal.returns-then-input-eq0
-returns-then-input-eq0 c = sym (read_empty _ _ c.if-input-eq0.true)
+pub returns-in_default : goal.returns-in_default
+returns-in_default c = sym (read_empty _ _ c.in_default.len_below)
 
-pub returns-then-needed-eq0 : goal.returns-then-needed-eq0
-returns-then-needed-eq0 c =
-    let a = c.args in
-    sym (read_unknown a.input.now a.started c.if-input-eq0.false c.record_length-needed.result c.record_length-needed.ensures c.if-needed-eq0.true)
+pub returns-in_err-kind : goal.returns-in_err-kind
+returns-in_err-kind c =
+    let p = err_from_is_err_and c.from_residual.result c.from_residual.ensures.1 in
+    rw (p.1, p.2) (sym (read_unknown c.args.input.now c.args.started c.in-len1-up.len_at_least _ (sym c.in_err-kind.ensures)))
 
-pub returns-then-input-needed : goal.returns-then-input-needed
-returns-then-input-needed c =
-    let a = c.args in
-    sym (read_cut a.input.now a.started c.if-input-eq0.false c.record_length-needed.result c.record_length-needed.ensures c.if-needed-eq0.false c.if-input-needed.true)
+pub returns-then-input-used : goal.returns-then-input-used
+returns-then-input-used c = sym (read_cut c.args.input.now c.args.started c.in-len1-up.len_at_least _ (sym c.in_ok-kind.ensures) (rw c.length-used.ensures at c.if-input-used.true))
 
-pub returns-then-in_turn : goal.returns-then-in_turn
-returns-then-in_turn c =
-    let a = c.args in
-    c.read_whole.ensures
-    ∙ sym (read_whole a.input.now a.started c.if-input-eq0.false c.record_length-needed.result c.record_length-needed.ensures c.if-needed-eq0.false c.if-input-needed.false (sym c.in_turn.ensures ∙ c.if-in_turn.true))
+pub returns-then-not-in_turn : goal.returns-then-not-in_turn
+returns-then-not-in_turn c =
+    sym (read_turn c.args.input.now c.args.started c.in-len1-up.len_at_least _ (sym c.in_ok-kind.ensures) (rw c.length-used.ensures at c.if-input-used.false) (sym c.in_turn.ensures ∙ c.if-not-in_turn.true))
 
-pub returns-else-in_turn : goal.returns-else-in_turn
-returns-else-in_turn c =
-    let a = c.args in
-    sym (read_turn a.input.now a.started c.if-input-eq0.false c.record_length-needed.result c.record_length-needed.ensures c.if-needed-eq0.false c.if-input-needed.false (sym c.in_turn.ensures ∙ c.if-in_turn.false))
+pub returns-in_err-r : goal.returns-in_err-r
+returns-in_err-r c =
+    let p = err_from_is_err_and c.from_residual-in_err-r.result c.from_residual-in_err-r.ensures.1 in
+    rw (p.1, p.2)
+    (sym
+    (read_out_of_range c.args.input.now c.args.started c.in-len1-up.len_at_least _ (sym c.in_ok-kind.ensures) (rw c.length-used.ensures at c.if-input-used.false) (sym c.in_turn.ensures ∙ c.if-not-in_turn.false) _
+    (sym (ap (λ (o : Option Record). ok_or o OutOfRange) c.read.ensures) ∙ sym c.in_err-r.ensures.value)))
+
+pub returns : goal.returns
+returns c =
+    rw c.length-used.ensures
+    (sym
+    (read_taken c.args.input.now c.args.started c.in-len1-up.len_at_least _ (sym c.in_ok-kind.ensures) (rw c.length-used.ensures at c.if-input-used.false) (sym c.in_turn.ensures ∙ c.if-not-in_turn.false) _
+    (sym (ap (λ (o : Option Record). ok_or o OutOfRange) c.read.ensures) ∙ sym c.in_ok-r.ensures.value)))
