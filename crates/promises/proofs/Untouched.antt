@@ -16,11 +16,11 @@ use Rattle.record.specs.Meaning.{body_in}
 use Rattle.record.proofs.Sorts.{Setup, never_setup}
 use Rattle.bank.specs.Meaning.{Rows, port_row, gate_row, group_row, scheduler_row, entries, component_row}
 use Rattle.bank.proofs.Rows.{row_other}
-use Rattle.filter.specs.Meaning.{Missing, ExceedsBurst}
+use Rattle.filter.specs.Meaning.{Missing, ExceedsBurst, no_key}
 use Rattle.filter.specs.Meaning.{is_filter_of, row_of}
 use Rattle.setup.specs.Meaning.{Listed, set_port_of, set_gate_of, add_entry_of, set_meter_of, set_group_of, set_scheduler_of, start_of}
 use Rattle.setup.proofs.Laws.{port_other, gate_other, group_other, scheduler_other, start_other}
-use Rattle.stage.specs.Meaning.{Bridge, Took, bridge, refused_of, filter_of, no_key, first_row, taken_of}
+use Rattle.stage.specs.Meaning.{Bridge, Took, bridge, refused_of, filter_of, first_row, taken_of}
 use Rattle.promises.specs.Meaning.{Call}
 
 -- ---- a setup record

@@ -4,7 +4,7 @@ use Rattle.std.specs.Prelude.{ℕ, zero, suc, ◌+◌, ◌*◌, List, ◌≡◌,
 use Rattle.std.proofs.Common.{ap, subst}
 use Rattle.std.proofs.Math.Path.{fun_ext}
 use Rattle.sizes.specs.Meaning.{filter_count, lists_octets, row_words}
-use Rattle.bank.specs.Meaning.{Rows, bank_words, load, rows_of}
+use Rattle.bank.specs.Meaning.{Rows, bank_words, load, rows_in, rows_of}
 use Rattle.filter.specs.Meaning.{no_row}
 use Rattle.verdict.specs.Meaning.{Answer}
 use Rattle.stage.specs.Meaning.{Bridge, bridge}
@@ -21,12 +21,12 @@ zero_load : (n a k m : ℕ) → load (repeated 0 n) a k m ≡ repeated 0 m
 zero_load n a k zero = refl
 zero_load n a k (suc m) = cc (zero_word n (a + k), zero_load n a (suc k) m)
 
-zero_rows : (n : ℕ) → rows_of (repeated 0 n) ≡ no_words
+zero_rows : (n : ℕ) → rows_in (repeated 0 n) ≡ no_words
 zero_rows n = fun_ext (λ r. zero_load n (r * row_words) 0 row_words)
 
 -- `filter_count` rows whose every field is 0, `bank_words` words and `lists_octets` octets that are 0
 abbrev pub zeros : Bridge
-zeros = bridge (repeated no_row filter_count) (rows_of (repeated 0 bank_words)) (repeated 0 lists_octets)
+zeros = bridge (repeated no_row filter_count) (rows_of (record { words = repeated 0 bank_words })) (repeated 0 lists_octets)
 
 pub fresh_is_zeros : zeros ≡ fresh
 unfolding fresh

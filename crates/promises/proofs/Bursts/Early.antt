@@ -17,7 +17,7 @@ use Rattle.record.proofs.Ranges.{Ranged}
 use Rattle.bank.specs.Meaning.{Rows, word, is_set, component_row, port_row, scheduler_row, component, entries, scheduler_in, with_classes}
 use Rattle.bank.proofs.Rows.{row_same, row_other}
 use Rattle.filter.specs.declared.Filter.{Filter}
-use Rattle.filter.specs.Meaning.{Found}
+use Rattle.filter.specs.Meaning.{Found, no_key}
 use Rattle.filter.specs.Meaning as asks
 use Rattle.filter.specs.Meaning.{is_filter_of, row_of, is_found}
 use Rattle.verdict.specs.Meaning.{Taken}
@@ -26,7 +26,7 @@ use Rattle.verdict.specs.Meaning.{Told, told}
 use Rattle.setup.specs.Meaning.{Listed, refused_if, set_port_of, set_gate_of, add_entry_of, set_meter_of, set_group_of, set_scheduler_of, incomplete_of, start_of}
 use Rattle.setup.proofs.Cases.{refused_by}
 use Rattle.setup.proofs.Laws.{gate_other, meter_other, group_other, scheduler_other}
-use Rattle.stage.specs.Meaning.{Bridge, Took, bridge, answered, refused_of, bank_took, no_key, first_row, taken_of, started_of}
+use Rattle.stage.specs.Meaning.{Bridge, Took, bridge, answered, refused_of, bank_took, first_row, taken_of, started_of}
 use Rattle.promises.proofs.Bursts.Pairs.{apart, Near, near_apart, with_constants, constants_in}
 use Rattle.promises.proofs.Bursts.Found.{Checked, missing_found_both, start_checks, checked_stays}
 use Rattle.promises.proofs.Bursts.Setups.{Together, port_together, gate_together, entry_together, meter_together, group_together, scheduler_together, start_together}

@@ -11,7 +11,7 @@ use Rattle.sizes.specs.Meaning.{filter_count}
 use Rattle.bank.specs.declared.Component.{Component}
 use Rattle.bank.specs.Meaning.{Rows, word, is_set, component_row, scheduler_row, scheduler_in, gate_is_set, meter_is_set, scheduler_is_set, burst, component}
 use Rattle.filter.specs.declared.Filter.{Filter}
-use Rattle.filter.specs.Meaning.{Asks}
+use Rattle.filter.specs.Meaning.{Asks, no_key}
 use Rattle.filter.specs.Meaning.{Fits, Missing, ExceedsBurst}
 use Rattle.filter.specs.declared.Key.{Key}
 use Rattle.filter.specs.Meaning.{Question}
@@ -19,7 +19,7 @@ use Rattle.filter.specs.Meaning.{Found}
 use Rattle.filter.specs.Meaning.{no_row, is_filter_of, names_missing, exceeds_burst, counts_of, fits_of, row_of, search_of, is_found}
 use Rattle.filter.proofs.Laws.{answers_asked}
 use Rattle.filter.proofs.SearchLaws.{search_alike, search_nothing}
-use Rattle.stage.specs.Meaning.{no_key}
+
 use Rattle.promises.proofs.Bursts.Pairs.{group_named, Constants, Fixed, Over, apart}
 use Rattle.promises.proofs.Bursts.Frames.{gate_row_both, meter_row_both, component_both}
 

@@ -11,8 +11,7 @@ use Rattle.scheduler.specs.declared.Scheduler.{Scheduler}
 use Rattle.scheduler.specs.declared.Stepped.{Stepped}
 use Rattle.scheduler.specs.declared.Outcome.{Outcome as SchedulerOutcome}
 use Rattle.scheduler.specs.declared.Outcome.TheVariants.{Admitted, Dropped as Late, Refused as Unsound}
-use Rattle.scheduler.specs.Meaning.{scheduler_step_of, eligible_of}
-use Rattle.scheduler.proofs.Range.{test_of}
+use Rattle.scheduler.specs.Meaning.{scheduler_step_of, eligible_of, scheduler_in_range}
 use Rattle.scheduler.proofs.Cases.{step_refused, step_dropped}
 use Rattle.scheduler.proofs.Larger.{Ahead, larger_burst_step}
 use Rattle.record.specs.declared.ArrivalRecord.{ArrivalRecord}
@@ -122,7 +121,7 @@ module _ (z : Constants) (g : ℕ) (a : ArrivalRecord) (row : Filter) (some : ro
     unfolding scheduled_by
     not_unsound r e l = ap (λ (t : Told). t.verdict) (first_is r e) ∙ ap (λ (d : SchedulerOutcome). (scheduled_by s a i g priority mark r.scheduler d).verdict) l
 
-    by_limit : test_of x₀ (group s g).last (group s g).residence a.time len ≡ true → (t : Bool) → leb (eligible_of x₀ (group s g).last a.time len.0) (a.time + (group s g).residence) ≡ t
+    by_limit : scheduler_in_range x₀ (group s g).last (group s g).residence a.time len ≡ true → (t : Bool) → leb (eligible_of x₀ (group s g).last a.time len.0) (a.time + (group s g).residence) ≡ t
         → Unless near z g (scheduled_of s a row priority mark) (scheduled_of s' a row priority mark)
     by_limit e false l n = absurd (n (not_late _ (step_dropped x₀ (group s g).last (group s g).residence a.time len e _ refl (leb-false _ _ l)) refl))
     by_limit e true l n =
@@ -130,12 +129,12 @@ module _ (z : Constants) (g : ℕ) (a : ArrivalRecord) (row : Filter) (some : ro
         rw (first_is _ both.0, second_is _ (offered_second _ both.1))
         (admitted_told _ _ _ _ both.3 (omega arith) both.2 priority mark)
 
-    by_test : (t : Bool) → test_of x₀ (group s g).last (group s g).residence a.time len ≡ t → Unless near z g (scheduled_of s a row priority mark) (scheduled_of s' a row priority mark)
+    by_test : (t : Bool) → scheduler_in_range x₀ (group s g).last (group s g).residence a.time len ≡ t → Unless near z g (scheduled_of s a row priority mark) (scheduled_of s' a row priority mark)
     by_test true e = by_limit e (leb (eligible_of x₀ (group s g).last a.time len.0) (a.time + (group s g).residence)) refl
     by_test false e = λ n. absurd (n (not_unsound _ (step_refused x₀ (group s g).last (group s g).residence a.time len e) refl))
 
     pub scheduled_near : Unless near z g (scheduled_of s a row priority mark) (scheduled_of s' a row priority mark)
-    scheduled_near = by_test (test_of x₀ (group s g).last (group s g).residence a.time len) refl
+    scheduled_near = by_test (scheduler_in_range x₀ (group s g).last (group s g).residence a.time len) refl
 
 -- the whole path
 pub arrival_near : (z : Constants) (g : ℕ) (a : ArrivalRecord) (row : Filter) → row.scheduler ≢ 255 → z.names (scheduler_row row.scheduler) ≡ g → (s s' : Rows) → Over near z g s s' → (lists : List ℕ) (f : ℕ)

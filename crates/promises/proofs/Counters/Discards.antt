@@ -16,7 +16,7 @@ use Rattle.record.specs.declared.PortRecord.{PortRecord}
 use Rattle.record.proofs.Sorts.{Setup, Sort, setup, arrival, clear, sort_of, setup_arrival}
 use Rattle.record.proofs.Ranges.{read_ranges}
 use Rattle.filter.specs.declared.Filter.{Filter}
-use Rattle.filter.specs.Meaning.{Found}
+use Rattle.filter.specs.Meaning.{Found, no_key}
 use Rattle.filter.specs.Meaning.{Fits, Missing, ExceedsBurst}
 use Rattle.filter.specs.Meaning.{row_of}
 use Rattle.verdict.specs.Meaning.{Verdict}
@@ -26,7 +26,7 @@ use Rattle.setup.specs.Meaning.{set_port_of, clear_of, with_largest}
 use Rattle.setup.proofs.Cases.{refused_by}
 use Rattle.setup.proofs.Laws.{gate_other, meter_other, group_other, scheduler_other, start_other, clear_other}
 use Rattle.path.specs.Meaning.{sdu_passed, gate_passed, gate_failed, discard_counted, arrival_of, sdu_filtered_of, sdu_failed, red_counted}
-use Rattle.stage.specs.Meaning.{Bridge, Took, answered, no_key, key_of, first_row, taken_of, started_of, take_of}
+use Rattle.stage.specs.Meaning.{Bridge, Took, answered, key_of, first_row, taken_of, started_of, take_of}
 use Rattle.promises.specs.Meaning.{Call, reading_of, event_of}
 use Rattle.promises.proofs.Refusals.Keeps.{answered_verdict}
 use Rattle.promises.proofs.Untouched.{setup_holds, entry_row}

@@ -16,7 +16,7 @@ use Rattle.record.proofs.Sorts.{Setup, Sort, setup, arrival, clear, sort_of}
 use Rattle.bank.specs.Meaning.{Rows, with_row, word, is_set, counters_row, gate_state_row, meter_row, meter_state_row, row_of_meter, row_of_meter_state, gate_is_set, meter, meter_is_set, with_meter, with_meter_state, meters_from, groups_from, component_row, scheduler_row, group_row, port_row}
 use Rattle.bank.proofs.Rows.{row_same, row_other}
 use Rattle.filter.specs.declared.Filter.{Filter}
-use Rattle.filter.specs.Meaning.{Found}
+use Rattle.filter.specs.Meaning.{Found, no_key}
 use Rattle.filter.specs.Meaning.{Fits, Missing, ExceedsBurst}
 use Rattle.filter.specs.Meaning.{Question}
 use Rattle.filter.specs.Meaning.{counts_of, fits_of, search_of}
@@ -27,7 +27,7 @@ use Rattle.setup.specs.Meaning.{set_port_of, set_gate_of, add_entry_of, set_mete
 use Rattle.setup.proofs.Cases.{refused_by, clear_by_lem}
 use Rattle.setup.proofs.Laws.{port_other, gate_other, group_other, scheduler_other, start_other}
 use Rattle.path.specs.Meaning.{arrival_of}
-use Rattle.stage.specs.Meaning.{Bridge, Took, no_key, first_row, taken_of, take_of}
+use Rattle.stage.specs.Meaning.{Bridge, Took, first_row, taken_of, take_of}
 use Rattle.promises.specs.Meaning.{Call, fresh, run_of}
 use Rattle.promises.proofs.Flags.Standing.{stands, kept_row, away}
 use Rattle.promises.proofs.Untouched.{setup_holds, entry_row}

@@ -26,13 +26,13 @@ use Rattle.record.proofs.Laws.{read_setup}
 use Rattle.record.proofs.Sorts.{Setup}
 use Rattle.record.proofs.Ranges.{read_ranges}
 use Rattle.bank.specs.Meaning.{Rows, component_row, gate_row, port, gate_is_set, entries, meter_is_set, group, scheduler_is_set}
-use Rattle.filter.specs.Meaning.{no_row, is_filter_of, row_of, is_found}
+use Rattle.filter.specs.Meaning.{no_row, is_filter_of, row_of, is_found, no_key}
 use Rattle.verdict.specs.Meaning.{Verdict}
 use Rattle.verdict.specs.Meaning.{Refused, Taken, Passed, Dropped}
 use Rattle.verdict.specs.Meaning.{Told, told}
 use Rattle.setup.specs.Meaning.{Listed, refused_if, set_port_of, set_gate_of, add_entry_of, set_meter_of, set_group_of, set_scheduler_of, start_of, clear_of, incomplete_of}
 use Rattle.setup.proofs.Cases.{entry_taken, entry_ninth}
-use Rattle.stage.specs.Meaning.{Bridge, Took, bridge, took, answered, refused_of, bank_took, lists_took, filter_of, key_of, no_key, first_row, started_of, taken_of, take_of}
+use Rattle.stage.specs.Meaning.{Bridge, Took, bridge, took, answered, refused_of, bank_took, lists_took, filter_of, key_of, first_row, started_of, taken_of, take_of}
 use Rattle.path.specs.Meaning.{arrival_of}
 use Rattle.promises.specs.Meaning.{Call, reading_of, event_of}
 use Rattle.promises.proofs.Ways.{Called, unread, read, called_way}

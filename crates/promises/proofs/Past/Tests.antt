@@ -12,7 +12,7 @@ use Rattle.record.specs.declared.FilterRecord.{FilterRecord}
 use Rattle.record.specs.declared.SchedulerRecord.{SchedulerRecord}
 use Rattle.bank.specs.Meaning.{Rows, component_row, meter_is_set, scheduler_is_set}
 use Rattle.filter.specs.declared.Filter.{Filter}
-use Rattle.filter.specs.Meaning.{Asks}
+use Rattle.filter.specs.Meaning.{Asks, no_key}
 use Rattle.filter.specs.Meaning.{Missing, ExceedsBurst}
 use Rattle.filter.specs.Meaning.{Question}
 use Rattle.filter.specs.Meaning.{Found}
@@ -20,7 +20,7 @@ use Rattle.filter.specs.Meaning.{is_filter_of, names_missing, exceeds_burst, cou
 use Rattle.filter.proofs.Laws.{filter_in_range, answers_asked}
 use Rattle.filter.proofs.SearchLaws.{search_finds, search_nothing}
 use Rattle.setup.specs.Meaning.{some_of, stray_of, groupless_of, incomplete_of}
-use Rattle.stage.specs.Meaning.{Bridge, filter_of, no_key, first_row}
+use Rattle.stage.specs.Meaning.{Bridge, filter_of, first_row}
 use Rattle.promises.specs.Past.Meaning.{of_it, is_there, Known, group_named, lacks_part, lacks_gate, lacks_group, lacks_any, over_burst}
 use Rattle.promises.proofs.Past.Words.{gate_set, entry_count_lem, meter_set, group_set, scheduler_set, scheduler_group_lem, scheduler_burst}
 use Rattle.promises.proofs.Past.Agrees.{Every, FilterSaid, Sound, BankSaid}

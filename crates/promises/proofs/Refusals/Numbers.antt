@@ -21,14 +21,14 @@ use Rattle.record.specs.declared.Refusal.TheVariants.{CutShort, OutOfRange, OutO
 use Rattle.record.specs.Meaning.{Reading}
 use Rattle.record.specs.Meaning.{body_in, Kind, kind_of, fields_of, values_at, fields_in_range, refusal_number_of, record_length, length_in, in_turn_of, read_as, read_of}
 use Rattle.bank.specs.Meaning.{Rows, component, port, entries, gate_is_set, meter_is_set, group, scheduler_is_set}
-use Rattle.filter.specs.Meaning.{Found}
+use Rattle.filter.specs.Meaning.{Found, no_key}
 use Rattle.filter.specs.Meaning.{is_filter_of, row_of, is_found, counts_of}
 use Rattle.verdict.specs.Meaning.{Verdict}
 use Rattle.verdict.specs.Meaning.{Refused, Taken}
 use Rattle.verdict.specs.Meaning.{Told, told}
 use Rattle.setup.specs.Meaning.{Listed, refused_if, set_port_of, set_gate_of, add_entry_of, set_meter_of, set_group_of, set_scheduler_of, start_of, incomplete_of, clear_oversize_of, clear_invalid_receive_of, clear_octets_of, clear_red_of, clear_of}
 use Rattle.path.specs.Meaning.{arrival_of}
-use Rattle.stage.specs.Meaning.{Bridge, Took, answered, refused_of, no_key, key_of, first_row, taken_of, read_by, started_of, take_of}
+use Rattle.stage.specs.Meaning.{Bridge, Took, answered, refused_of, key_of, first_row, taken_of, read_by, started_of, take_of}
 use Rattle.promises.specs.Meaning.{Call}
 use Rattle.promises.proofs.Ways.{arrived_along}
 use Rattle.promises.proofs.Refusals.Keeps.{frame_framed, framed_number, answered_verdict}

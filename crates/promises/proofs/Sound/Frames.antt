@@ -1,4 +1,5 @@
 -- A frame through the steps: in each of document 01's cases it is told that very verdict, and the numbers of the bank stay sound.
+use Rattle.scheduler.specs.Meaning.{scheduler_in_range}
 use Rattle.std.specs.Prelude.{ℕ, ◌+◌, ◌%◌, ◌≤◌, ◌<◌, ◌^◌, Bool, not, ◌&&◌, List, ◌≢◌, ◌≡◌, refl, eqb, ltb, Some, None}
 use Rattle.std.proofs.Math.Bool.{true, false}
 use Rattle.std.proofs.Common.{sym, subst, ◌∙◌, arith, eqb-true, ne_eqb, le-ltb, lt-ltb}
@@ -22,7 +23,7 @@ use Rattle.scheduler.specs.declared.Scheduler.{Scheduler}
 use Rattle.scheduler.specs.declared.Stepped.{Stepped}
 use Rattle.scheduler.specs.declared.Outcome.{Outcome as SchedulerOutcome}
 use Rattle.scheduler.specs.declared.Outcome.TheVariants.{Admitted, Dropped as Late}
-use Rattle.scheduler.proofs.Range.{test_of, ranged_back}
+use Rattle.scheduler.proofs.Range.{ranged_back}
 use Rattle.scheduler.proofs.Cases.{step_dropped, step_admitted}
 use Rattle.scheduler.proofs.Larger.{in_range_again}
 use Rattle.record.specs.declared.ArrivalRecord.{ArrivalRecord}
@@ -253,7 +254,7 @@ module _ (b : Bridge) (a : ArrivalRecord) (ready : Ready b a) where
     same_offer : offered_of t a i j ≡ offered_of s a i j
     same_offer = rw (same_scheduler, w.rows (group_row j) (omega arith) (omega arith), w.ports a.port) refl
 
-    in_range : test_of (scheduler s i) (group s j).last (group s j).residence a.time (charged_of s a) ≡ true
+    in_range : scheduler_in_range (scheduler s i) (group s j).last (group s j).residence a.time (charged_of s a) ≡ true
     in_range = ranged_back (scheduler s i) (group s j).last (group s j).residence a.time (charged_of s a) (scheduler_in_range_lem b a ready f row ipv mark there)
 
     pub by_offer : (r : Stepped) → offered_of s a i j ≡ r → (o : SchedulerOutcome) → r.outcome ≡ o → scheduled_of t a row priority mark ≡ scheduled_by t a i j priority mark r.scheduler o

@@ -24,14 +24,14 @@ use Rattle.bank.specs.Meaning.{Rows, with_row, gates_from, meters_from, counters
 use Rattle.bank.proofs.Rows.{row_other}
 use Rattle.bank.proofs.Laws.{overhead_same, meter_with}
 use Rattle.filter.specs.declared.Filter.{Filter}
-use Rattle.filter.specs.Meaning.{Found}
+use Rattle.filter.specs.Meaning.{Found, no_key}
 use Rattle.filter.specs.Meaning as asks
 use Rattle.filter.specs.Meaning.{is_filter_of, row_of, counts_of, is_found}
 use Rattle.verdict.specs.Meaning.{Told}
 use Rattle.setup.specs.Meaning.{refused_if, with_largest, set_port_of, set_meter_of, set_group_of, fresh_scheduler_of, set_scheduler_of, some_of, groupless_of, stray_of, incomplete_of, start_of, red_low, clear_oversize_of, clear_invalid_receive_of, clear_octets_of, clear_red_of, clear_of}
 use Rattle.setup.proofs.Cases.{none_of, refused_by, clear_by_lem}
 use Rattle.setup.proofs.Laws.{gate_other}
-use Rattle.stage.specs.Meaning.{Bridge, Took, no_key, first_row, refused_of, started_of, taken_of}
+use Rattle.stage.specs.Meaning.{Bridge, Took, first_row, refused_of, started_of, taken_of}
 use Rattle.promises.specs.Meaning.{Call}
 use Rattle.promises.proofs.Untouched.{entry_row}
 use Rattle.promises.proofs.Sound.Bounds.{MeterFilled, Sound, rows_complete}

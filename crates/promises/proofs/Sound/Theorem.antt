@@ -14,8 +14,8 @@ use Rattle.meter.specs.Range.{in_range_back}
 use Rattle.meter.proofs.Laws.{colour_refused_3, colour_refused_9}
 use Rattle.meter.proofs.Cases.{painted_stopped_lem}
 use Rattle.scheduler.specs.declared.Outcome.TheVariants.{Refused as Unsound}
-use Rattle.scheduler.specs.Meaning.{scheduler_number_of}
-use Rattle.scheduler.proofs.Range.{test_of, ranged_back}
+use Rattle.scheduler.specs.Meaning.{scheduler_number_of, scheduler_in_range}
+use Rattle.scheduler.proofs.Range.{ranged_back}
 use Rattle.scheduler.proofs.Cases.{step_dropped, step_admitted}
 use Rattle.record.specs.declared.ArrivalRecord.{ArrivalRecord}
 use Rattle.record.specs.declared.Refusal.TheVariants.{TableLength}
@@ -182,7 +182,7 @@ module _ (b : Bridge) (reached : Reached b) (whole : length b.table ≡ filter_c
     pub scheduler_refuses_none : (offered_of b.bank a i j).outcome ≢ Unsound
     scheduler_refuses_none = by_limit (leb (eligible_at b a i) (latest_at b a i)) refl
       where
-        test : test_of (scheduler b.bank i) (group b.bank j).last (group b.bank j).residence a.time (charged_of b.bank a) ≡ true
+        test : scheduler_in_range (scheduler b.bank i) (group b.bank j).last (group b.bank j).residence a.time (charged_of b.bank a) ≡ true
         test = ranged_back _ _ _ _ _ (scheduler_in_range_lem b a ready f row ipv mark there)
 
         by_limit : (t : Bool) → leb (eligible_at b a i) (latest_at b a i) ≡ t → (offered_of b.bank a i j).outcome ≢ Unsound

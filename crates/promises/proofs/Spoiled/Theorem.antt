@@ -20,7 +20,7 @@ use Rattle.record.specs.Meaning.{read_of}
 use Rattle.record.proofs.Laws.{read_in_turn}
 use Rattle.bank.specs.Meaning.{Rows}
 use Rattle.filter.specs.declared.Filter.{Filter}
-use Rattle.filter.specs.Meaning.{Fits, Missing, ExceedsBurst}
+use Rattle.filter.specs.Meaning.{Fits, Missing, ExceedsBurst, no_key}
 use Rattle.filter.specs.Meaning.{Found}
 use Rattle.filter.specs.Meaning.{no_row, is_filter_of, counts_of, row_of}
 use Rattle.filter.proofs.SearchLaws.{search_spoiled, search_no_filter}
@@ -29,7 +29,7 @@ use Rattle.verdict.specs.Meaning.{Answer}
 use Rattle.verdict.specs.Meaning.{Told}
 use Rattle.setup.specs.Meaning.{start_of, clear_oversize_of, clear_of}
 use Rattle.path.specs.Meaning.{arrival_of}
-use Rattle.stage.specs.Meaning.{Bridge, took, answered, refused_of, bank_took, filter_of, no_key, key_of, first_row, taken_of, read_by, started_of, take_of}
+use Rattle.stage.specs.Meaning.{Bridge, took, answered, refused_of, bank_took, filter_of, key_of, first_row, taken_of, read_by, started_of, take_of}
 use Rattle.promises.specs.Meaning.{Call}
 use Rattle.promises.specs.Spoiled.Meaning.{spoiled_at, emptied, but_for}
 use Rattle.record.specs.declared.Record.TheVariants as kind

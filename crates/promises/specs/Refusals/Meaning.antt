@@ -6,12 +6,12 @@ use Rattle.record.specs.declared.Record.{Record}
 use Rattle.record.specs.declared.ClearRecord.{ClearRecord}
 use Rattle.record.specs.Meaning.{Kind, kind_of, fields_of, values_at, fields_in_range, refusal_number_of, record_of, length_in, in_turn_in, of_entry, of_start, of_arrival, of_clear}
 use Rattle.bank.specs.Meaning.{component, port, gate_is_set, entries, meter_is_set, group, scheduler_is_set}
-use Rattle.filter.specs.Meaning.{Missing, ExceedsBurst}
+use Rattle.filter.specs.Meaning.{Missing, ExceedsBurst, no_key}
 use Rattle.filter.specs.Meaning.{is_filter_of, counts_of, row_of, is_found}
 use Rattle.verdict.specs.Meaning.{Verdict}
 use Rattle.verdict.specs.Meaning.{Refused, Taken, Passed, Dropped}
 use Rattle.setup.specs.Meaning.{incomplete_of}
-use Rattle.stage.specs.Meaning.{Bridge, no_key, first_row, started_of, take_of}
+use Rattle.stage.specs.Meaning.{Bridge, first_row, started_of, take_of}
 use Rattle.promises.specs.Meaning.{Call}
 use Rattle.record.specs.declared.Record.TheVariants as kind
 
