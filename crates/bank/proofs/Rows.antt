@@ -1,11 +1,15 @@
 -- Words as rows of eight: the state is its rows, and a store into a row changes that row alone.
 use Rattle.std.specs.Prelude.{◌≡◌, ℕ, ◌+◌, ◌*◌, ◌/◌, ◌%◌, ◌<◌, ◌≤◌, ◌≢◌, List, length, slice_index, slice_set, refl}
-use Rattle.std.proofs.Common.{ap, sym, ◌∙◌, arith, eq-eqb, ne_eqb, ext_get_or}
+use Rattle.std.proofs.Common.{ap, sym, ◌∙◌, arith, eq-eqb, ne_eqb, ext_get_or, ◌++◌, take, drop}
+use Rattle.std.proofs.Math.Seq.{take_all}
+use Rattle.std.proofs.lemmas.List.Edits.{sets, sets-eq}
+use Rattle.std.proofs.lemmas.Slice.{put_mid-paste}
+use borrow.Rule.Slice.PartMut.{put_mid}
 use Rattle.std.proofs.Math.Path.{fun_ext}
 use Rattle.std.proofs.Math.Decide.{ℕ_discrete}
 use Rattle.sizes.specs.Meaning.{row_words}
 use Rattle.bank.specs.Meaning.{store, Rows, rows_in, with_row}
-use Rattle.bank.proofs.Store.{load_same, load_apart, get_d_load, load_set, load_untouched}
+use Rattle.bank.proofs.Store.{store_is, load_same, load_apart, get_d_load, load_set, load_untouched}
 
 pub row_same : (s : Rows) (r : ℕ) (vs : List ℕ) → with_row s r vs r ≡ vs
 unfolding with_row
@@ -58,6 +62,16 @@ module _ (ws : List ℕ) (r : ℕ) (vs : List ℕ) (whole : length vs ≡ row_wo
 
   pub rows_put : rows_in (put_row ws r vs) ≡ with_row (rows_in ws) r vs
   rows_put = fun_ext (λ q. at_row q (ℕ_discrete q r))
+
+-- the same, as the code does it: a row is copied over a part of the words, which is then `us`
+pub part_put : (ws : List ℕ) (r k : ℕ) (us vs : List ℕ) → k ≡ row_words → us ≡ vs → length us ≡ row_words → r * row_words + row_words ≤ length ws → rows_in (put_mid (r * row_words) k ws us) ≡ with_row (rows_in ws) r vs
+part_put ws r k us vs e same whole fits =
+    ap rows_in
+    (put_mid-paste (r * row_words) k ws us us (length us) refl (whole ∙ sym e) refl
+    ∙ ap (λ (row : List ℕ). take (r * row_words) ws ++ row ++ drop (r * row_words + length us) ws) (take_all (length us) us (omega arith))
+    ∙ sym (store_is ws (r * row_words) 0 us ∙ ap (λ (i : ℕ). sets ws i us) (omega arith) ∙ sets-eq us ws (r * row_words) (omega arith)))
+    ∙ rows_put ws r us whole fits
+    ∙ ap (with_row (rows_in ws) r) same
 
 -- a store of one word, the k-th of row r
 module _ (ws : List ℕ) (r k v : ℕ) (in_row : k < row_words) (fits : r * row_words + row_words ≤ length ws) where

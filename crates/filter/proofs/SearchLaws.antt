@@ -1,15 +1,24 @@
 -- The search: what it finds, and what it doesn't depend on.
-use Rattle.std.specs.Prelude.{ℕ, zero, suc, ◌+◌, ◌-◌, ◌≤◌, ◌<◌, Bool, true, false, cond, ◌≡◌, List, ltb, length, set, Some, None}
+use Rattle.std.specs.Prelude.{ℕ, zero, suc, ◌+◌, ◌-◌, ◌≤◌, ◌<◌, Bool, true, false, cond, ◌≡◌, List, ltb, length, get_or, take, set, min, Some, None}
 use Rattle.std.proofs.Common.{true≢false, sym, ap, subst, ◌∙◌, arith, ltb-true, ltb-false, get_or-set_same, get_or-set_other}
 use Rattle.std.proofs.Math.Path.{refl}
+use Rattle.std.proofs.lemmas.List.{get_or-take, length-take}
 use Rattle.std.proofs.lemmas.Option.{some_pair_parts}
 use Rattle.std.proofs.Math.Decide.{ℕ_discrete}
 use Rattle.std.proofs.Math.ListN.{get_or-eq_default}
 use Rattle.std.proofs.Math.Seq.{set_out}
+use Rattle.sizes.specs.Meaning.{filter_count}
 use Rattle.bank.specs.Meaning.{Rows}
 use Rattle.filter.specs.declared.Filter.{Filter}
-use Rattle.filter.specs.Meaning.{no_row, is_filter_of, counts_of, row_of, Fits, Any, Question, row_answers, Found, first_found, search_from, search_of}
+use Rattle.filter.specs.declared.Key.{Key}
+use Rattle.filter.specs.Meaning.{no_row, is_filter_of, counts_of, row_of, Asks, Fits, Any, Question, of_every_place, row_answers, Found, first_found, search_from, search_of}
+use Rattle.filter.specs.Search.{first_of_all}
 use Rattle.filter.proofs.Laws.{SameParts, Asking, answers_asked, answers_same, answers_empty, answers_spoiled, answers_no_filter}
+
+-- ---- the table as far as a search goes
+
+pub row_within : (rows : List Filter) (n i : ℕ) → i < length (take n rows) → get_or (take n rows) i no_row ≡ row_of rows i
+row_within rows n i h = get_or-take n rows i no_row (omega (arith, h, length-take n rows))
 
 -- ---- the first row that passes a test
 
@@ -39,6 +48,30 @@ module _ (test : Filter → Bool) (rows : List Filter) where
   first_past end i (suc n) h none =
       first_next end i (omega (arith, h)) (none i (omega arith) (omega arith)) ∙ first_past end (i + 1) n (omega (arith, h)) (λ j l u. none j (omega (arith, l)) (omega (arith, u)))
       ∙ ap (λ (k : ℕ). first_found test rows k (end - k)) (omega arith)
+
+  -- the first place of all
+  pub first_at : (i : ℕ) → i < filter_count → test (row_of rows i) ≡ true → ((k : ℕ) → k < i → test (row_of rows k) ≡ false) → first_of_all test rows ≡ Some (i, row_of rows i)
+  unfolding first_of_all
+  first_at i h hits none =
+      first_past filter_count 0 i (omega (arith, h)) (λ j l u. none j (omega (arith, u)))
+      ∙ ap (λ (k : ℕ). first_found test rows k (filter_count - k)) (omega arith) ∙ first_hit filter_count i h hits
+
+  -- none, where no row of the table passes nor the empty one
+  pub first_nowhere : (i : ℕ) → min (length rows) filter_count ≤ i → ((k : ℕ) → k < i → test (row_of rows k) ≡ false) → test no_row ≡ false → first_of_all test rows ≡ None
+  unfolding first_of_all
+  first_nowhere i far none empty = first_past filter_count 0 filter_count (omega arith) (λ j l u. by_place j u (ltb j (length rows)) refl)
+    where
+      by_place : (j : ℕ) → j < filter_count → (t : Bool) → ltb j (length rows) ≡ t → test (row_of rows j) ≡ false
+      by_place j u true e = none j (omega (arith, far, u, ltb-true j (length rows) e))
+      by_place j u false e = ap test (get_or-eq_default rows no_row (ltb-false j (length rows) e)) ∙ empty
+
+  -- a place more of which the row doesn't pass
+  pub all_before : (i : ℕ) → ((k : ℕ) → k < i → test (row_of rows k) ≡ false) → test (row_of rows i) ≡ false → (k : ℕ) → k < i + 1 → test (row_of rows k) ≡ false
+  all_before i none e k h = by_place (ℕ_discrete k i)
+    where
+      by_place : Dec (k ≡ i) → test (row_of rows k) ≡ false
+      by_place (yes p) = ap (λ (j : ℕ). test (row_of rows j)) p ∙ e
+      by_place (no p) = none k (omega (arith, h, p))
 
   -- what is found among the places from i up to and without `end`
   pub record Finds (i end k : ℕ) (row : Filter) : Type 0 where
@@ -136,6 +169,11 @@ module _ (s : Rows) (q : Question) (rows : List Filter) where
   -- one place, of which nothing is asked
   pub search_one : q.asks ≡ Any → q.to ≡ q.from + 1 → search_of s q rows ≡ Some (q.from, row_of rows q.from)
   search_one asks to = sym search_begins ∙ search_hit q.from (omega (arith, to)) (answers_asked s (row_of rows q.from) q Any asks)
+
+-- the search of every place, as the code does it
+pub search_whole : (s : Rows) (rows : List Filter) (asks : Asks) (key : Key) → first_of_all (row_answers s (of_every_place asks key)) rows ≡ search_of s (of_every_place asks key) rows
+unfolding search_of first_of_all
+search_whole s rows asks key = refl
 
 -- ---- the search depends on the rows' answers alone
 

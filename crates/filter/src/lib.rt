@@ -4,10 +4,10 @@
 
 ghost use Rattle.std.specs.Prelude.{◌≡◌, Bool, false, set};
 ghost use Rattle.std.specs.Fn.{FnReturnsAt};
-ghost use Rattle.sizes.specs.Meaning.{filter_count};
 ghost use Rattle.bank.specs.Meaning.{rows_of};
 ghost use Rattle.filter.specs.declared.Filter.{Filter};
-ghost use Rattle.filter.specs.Meaning.{no_row, row_in_range, is_filter_of, names_missing, exceeds_burst, counts_of, fits_of, row_of, Fits, Missing, ExceedsBurst, no_key, of_every_place, first_found, search_of};
+ghost use Rattle.filter.specs.Meaning.{no_row, row_in_range, is_filter_of, names_missing, exceeds_burst, counts_of, fits_of, row_of, Fits, Missing, ExceedsBurst, no_key, of_every_place, search_of};
+ghost use Rattle.filter.specs.Search.{first_of_all};
 
 use bank::Bank;
 
@@ -68,7 +68,7 @@ pub fn first_exceeding(table: &[Filter], bank: &Bank) -> Option<(usize, Filter)>
 // has to fail of an empty row.
 fn search<F: Fn(&Filter) -> bool>(table: &[Filter], passes: F) -> Option<(usize, Filter)>
     requires { F.IsAlwaysCallable passes }
-    ensures { (test : Filter → Bool) → ((row : Filter) (b : Bool) → FnReturnsAt F.Fn passes row b → b ≡ test row) → test no_row ≡ false → result ≡ first_found test table.now 0 filter_count }
+    ensures { (test : Filter → Bool) → ((row : Filter) (b : Bool) → FnReturnsAt F.Fn passes row b → b ≡ test row) → test no_row ≡ false → result ≡ first_of_all test table.now }
 {
     let rows = &table[..table.len().min(sizes::FILTERS)];
     for (i, row) in rows.iter().enumerate() {
@@ -92,8 +92,9 @@ pub fn row_at(table: &[Filter], i: usize) -> Filter
 pub fn put_row(table: &mut [Filter], place: usize, row: Filter)
     ensures { table.new ≡ set table.old place row }
 {
-    if let Some(at) = table.get_mut(place) {
-        *at = row;
+    // Kept: `get_mut` says nothing of what the table is afterwards.
+    if place < table.len() {
+        table[place] = row;
     }
 }
 

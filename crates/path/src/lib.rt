@@ -15,6 +15,7 @@ use verdict::{Drop, Outcome, Pass};
 
 // An arrival, where `found` is the first filter that matches.
 // Ruled out: every frame passing at its arrival time; an arrival that is refused moving the clock.
+#[tactic(auto, unfolding(crate::specs::Meaning::arrival_of))]
 pub fn arrive(
     bank: &mut Bank,
     lists: &Lists,
@@ -41,6 +42,7 @@ pub fn arrive(
 }
 
 // A frame on its way: the arrival, and the place and the row of the filter that it matches.
+#[derive(Clone, Copy)]
 struct Frame {
     arrival: ArrivalRecord,
     place: usize,
@@ -49,6 +51,7 @@ struct Frame {
 
 impl Frame {
     // 2: the maximum SDU filter.
+    #[tactic(auto, unfolding(crate::specs::Meaning::sdu_filtered_of, crate::specs::Meaning::sdu_failed, crate::specs::Meaning::sdu_passed))]
     fn filter_sdu(&self, bank: &mut Bank, lists: &Lists) -> Outcome
         ensures { told (rows_of bank.new) (verdict_of result) ≡ sdu_filtered_of (rows_of bank.old) lists.now self.now.arrival self.now.place self.now.row }
     {
@@ -83,6 +86,7 @@ impl Frame {
     }
 
     // 3: the gate. Its list is its own part of the lists.
+    #[tactic(auto, unfolding(crate::specs::Meaning::gated_of, crate::specs::Meaning::gated_by, crate::specs::Meaning::gate_passed, crate::specs::Meaning::gate_failed))]
     fn reach(&self, bank: &mut Bank, lists: &Lists) -> Outcome
         ensures { told (rows_of bank.new) (verdict_of result) ≡ gated_of (rows_of bank.old) lists.now self.now.arrival self.now.place self.now.row }
     {
@@ -104,6 +108,7 @@ impl Frame {
     }
 
     // 4: the meter, if named.
+    #[tactic(auto, unfolding(crate::specs::Meaning::metered_of, crate::specs::Meaning::metered_by, crate::specs::Meaning::red_counted))]
     fn meter(&self, bank: &mut Bank, priority: u8) -> Outcome
         ensures { told (rows_of bank.new) (verdict_of result) ≡ metered_of (rows_of bank.old) self.now.arrival self.now.place self.now.row priority }
     {
@@ -125,6 +130,7 @@ impl Frame {
     }
 
     // 5: the scheduler, if named.
+    #[tactic(auto, unfolding(crate::specs::Meaning::scheduled_of, crate::specs::Meaning::scheduled_by, crate::specs::Meaning::discard_counted))]
     fn schedule(&self, bank: &mut Bank, priority: u8, mark: u8) -> Outcome
         ensures { told (rows_of bank.new) (verdict_of result) ≡ scheduled_of (rows_of bank.old) self.now.arrival self.now.row priority mark }
     {

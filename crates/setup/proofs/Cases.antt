@@ -1,17 +1,19 @@
 -- The cases of the definitions in Setup, each from the facts that a function has in hand.
-use Rattle.std.specs.Prelude.{ℕ, zero, suc, ◌+◌, ◌≤◌, ◌<◌, Bool, true, false, ◌||◌, List, ◌≡◌, eqb}
-use Rattle.std.proofs.Common.{⊎_elim, ap, ◌∙◌, not-suc-le-zero, eq-or-lt_of_le, le_of_suc-le-suc, add-one}
+use Rattle.std.specs.Prelude.{ℕ, zero, suc, ◌+◌, ◌-◌, ◌≤◌, ◌<◌, Bool, true, false, ◌||◌, List, [], ◌∷◌, ◌≡◌, eqb, slice_set}
+use Rattle.std.proofs.Math.Bool.{or-false, or_assoc}
+use Rattle.std.specs.List.{list_any, range_with_len}
+use Rattle.std.proofs.Common.{sym, add-zero, zero-add, arith, ⊎_elim, ap, ◌∙◌, not-suc-le-zero, eq-or-lt_of_le, le_of_suc-le-suc, add-one}
 use borrow.Author.Tests.{lt-ltb, le-ltb, ne_eqb, eqb-true}
-use Rattle.sizes.specs.Meaning.{entry_count}
+use Rattle.sizes.specs.Meaning.{entry_count, entry_octets}
 use Rattle.logic.specs.Laws.{neither_left, neither_right, if_by}
 use Rattle.record.specs.declared.GateEntryRecord.{GateEntryRecord}
 use Rattle.record.specs.declared.ClearRecord.{ClearRecord}
 use Rattle.record.specs.declared.Refusal.{Refusal}
 use Rattle.record.specs.declared.Refusal.TheVariants.{NinthEntry, NotSetUp}
-use Rattle.bank.specs.Meaning.{Rows, entries, with_entries}
+use Rattle.bank.specs.Meaning.{Rows, store, entries, with_entries}
 use Rattle.filter.specs.declared.Filter.{Filter}
 use Rattle.verdict.specs.Meaning.{Refused, Taken, Told, told}
-use Rattle.setup.specs.Meaning.{refused_if, some_of, listed, entry_kept, entry_place, add_entry_of, clear_oversize_of, clear_invalid_receive_of, clear_octets_of, clear_red_of, clear_of}
+use Rattle.setup.specs.Meaning.{refused_if, octet_at, some_of, listed, entry_kept, entry_place, add_entry_of, clear_oversize_of, clear_invalid_receive_of, clear_octets_of, clear_red_of, clear_of}
 
 module _ (b : Bool) (why : Refusal) (s : Rows) (t : Told) where
   pub if_refused : b ≡ true → refused_if b why s t ≡ told s (Refused why)
@@ -28,10 +30,19 @@ unfolding refused_if
 refused_by P true why s t h k = h
 refused_by P false why s t h k = k
 
-module _ (test : ℕ → Bool) (found : Bool) (n : ℕ) (e : found ≡ some_of test n) where
-  pub some_more : (t : Bool) → t ≡ test n → (found || t) ≡ some_of test (n + 1)
-  unfolding some_of
-  some_more t e' = rw (add-one, e, e')
+-- what `any` finds among the numbers below n, one after the other, is what `some_of` finds
+some_of_more : (test : ℕ → Bool) (a n : ℕ) → (some_of test a || list_any test (range_with_len a n)) ≡ some_of test (a + n)
+unfolding some_of
+some_of_more test a zero = or-false (some_of test a) ∙ ap (some_of test) (sym (add-zero a))
+some_of_more test a (suc n) =
+    sym (or_assoc (some_of test a) (test a) (list_any test (range_with_len (a + 1) n)))
+    ∙ ap (λ (k : ℕ). some_of test (suc a) || list_any test (range_with_len k n)) (add-one a)
+    ∙ some_of_more test (suc a) n
+    ∙ ap (some_of test) (let same : suc a + n ≡ a + suc n = omega arith in same)
+
+pub some_of_any : (test : ℕ → Bool) (n : ℕ) → list_any test (range_with_len 0 n) ≡ some_of test n
+unfolding some_of
+some_of_any test n = some_of_more test 0 n ∙ ap (some_of test) (zero-add n)
 
 -- where none passes the test, each fails it
 pub none_of : (test : ℕ → Bool) (n : ℕ) → some_of test n ≡ false → (i : ℕ) → i < n → test i ≡ false
@@ -49,6 +60,18 @@ module _ (s : Rows) (lists body : List ℕ) (r : GateEntryRecord) (n : ℕ) (e :
   pub entry_ninth : entry_count ≤ n → add_entry_of s lists body r ≡ listed s lists (Refused NinthEntry)
   unfolding add_entry_of
   entry_ninth h = rw (← e, le-ltb _ _ h)
+
+-- n octets of a body from octet k on
+abbrev pub octets_from : List ℕ → ℕ → ℕ → List ℕ
+octets_from body k zero = []
+octets_from body k (suc n) = octet_at body k ∷ octets_from body (suc k) n
+
+-- octet k stored, what is still to come is one less
+pub kept_more : (ws body kept : List ℕ) (at k v : ℕ) → k < entry_octets → v ≡ octet_at body k → store ws at k (octets_from body k (entry_octets - k)) ≡ kept
+    → store (slice_set ws (at + k) v) at (k + 1) (octets_from body (k + 1) (entry_octets - (k + 1))) ≡ kept
+kept_more ws body kept at k v below e h =
+    let more : entry_octets - k ≡ suc (entry_octets - suc k) = omega arith in
+    rw (e, add-one) (rw more at h)
 
 -- the flag is none of 1 to 4
 abbrev pub Others : ℕ → Type 0

@@ -12,7 +12,8 @@ use Rattle.record.specs.Meaning.{Reading, body_in, read_of}
 use Rattle.bank.specs.Meaning.{Rows, is_set, component}
 use Rattle.filter.specs.declared.Filter.{Filter}
 use Rattle.filter.specs.declared.Key.{Key}
-use Rattle.filter.specs.Meaning.{Asks, Fits, Missing, ExceedsBurst, Found, is_filter_of, row_of, search_of}
+use Rattle.filter.specs.Meaning.{Asks, Fits, Missing, ExceedsBurst, of_every_place, Found, is_filter_of, row_of, search_of}
+pub use Rattle.filter.specs.Meaning.{no_key}
 use Rattle.verdict.specs.Meaning.{Verdict, Refused, Taken, Passed, Dropped, Answer, Told}
 use Rattle.path.specs.Meaning.{arrival_of}
 use Rattle.setup.specs.Meaning.{Listed, set_port_of, set_gate_of, add_entry_of, set_meter_of, set_group_of, set_scheduler_of, start_of, clear_of}
@@ -63,13 +64,9 @@ filter_of r = record { handle = r.handle; max_sdu = r.max_sdu; used = 1; any_han
 abbrev pub key_of : ArrivalRecord → Key
 key_of a = record { handle = a.handle; priority = a.priority }
 
--- of a start's searches, which match nothing
-abbrev pub no_key : Key
-no_key = record { handle = 0; priority = 0 }
-
 -- the first row of the table of which something holds
 abbrev pub first_row : Bridge → Asks → Key → Found
-first_row b asks key = search_of b.bank (record { from = 0; to = filter_count; asks = asks; key = key }) b.table
+first_row b asks key = search_of b.bank (of_every_place asks key) b.table
 
 -- ---- each kind of record, its fields in range and in its turn
 

@@ -1,8 +1,9 @@
 -- Laws of what is put on a page, and of numbers in decimal.
-use Rattle.std.specs.Prelude.{ℕ, zero, suc, ◌+◌, ◌/◌, ◌%◌, ◌<◌, ◌≤◌, ◌≡◌, Bool, true, false, ltb, length, get_or, set, drop}
+use Rattle.std.specs.Prelude.{ℕ, zero, suc, ◌+◌, ◌/◌, ◌%◌, ◌<◌, ◌≤◌, ◌≡◌, Bool, true, false, ltb, length, get_or, set, take, drop}
 use Rattle.std.proofs.Math.Path.{refl, sym, ap}
 use Rattle.std.proofs.Common.{◌∙◌, arith, add-one, drop-cons, ltb-false, lt-ltb, le-ltb, eq-eqb, ne_eqb}
 use Rattle.std.proofs.Math.Bool.{cond}
+use Rattle.std.proofs.lemmas.List.{take_more}
 use mathlib.Core.List.{List, [], ◌∷◌, ◌++◌, append_assoc}
 use Rattle.text.specs.Meaning.{Page, page, put_of, written, digits_in, digits_of, pair_of, ascii, item_of, up_to}
 
@@ -17,19 +18,14 @@ written_append p (x ∷ xs) ys = written_append (put_of p x) xs ys
 pub written_then : (a b c : Page) (xs ys : List ℕ) → b ≡ written a xs → c ≡ written b ys → c ≡ written a (xs ++ ys)
 written_then a b c xs ys e f = f ∙ ap (λ (p : Page). written p ys) e ∙ sym (written_append a xs ys)
 
-pub written_one : (p q : Page) (v : ℕ) → q ≡ put_of p v → q ≡ written p (v ∷ [])
-unfolding written
-written_one p q v e = e
-
 pub written_none : (p : Page) → written p [] ≡ p
 unfolding written
 written_none p = refl
 
--- the octets of a list from the first on
-pub written_next : (p q : Page) (vs : List ℕ) (i : ℕ) → i < length vs → q ≡ put_of p (get_or vs i 0) → written q (drop (i + 1) vs) ≡ written p (drop i vs)
+-- one octet of a list more
+pub written_more : (p : Page) (vs : List ℕ) (i : ℕ) → i < length vs → written p (take (i + 1) vs) ≡ put_of (written p (take i vs)) (get_or vs i 0)
 unfolding written
-written_next p q vs i l e =
-    ap (λ (a : Page). written a (drop (i + 1) vs)) e ∙ ap (λ (k : ℕ). written (put_of p (get_or vs i 0)) (drop k vs)) (add-one i) ∙ sym (ap (written p) (drop-cons vs i 0 l))
+written_more p vs i l = ap (written p) (take_more vs i 0 l) ∙ written_append p (take i vs) (get_or vs i 0 ∷ [])
 
 -- an octet that has a place, and one that has none
 module _ (octets : List ℕ) (filled v : ℕ) where
@@ -87,14 +83,14 @@ module _ (n : ℕ) where
 
 -- ---- the report
 
-module _ (p q : Page) (table : List ℕ) (n : ℕ) (name : List ℕ) (value : ℕ) where
-  pub item_none : value ≡ 0 → p ≡ written p (item_of table n name value)
-  unfolding item_of written
-  item_none e = ap (λ (z : Bool). written p (cond z [] (table ++ digits_of n ++ name ++ digits_of value ++ ascii "\n"))) (sym (eq-eqb value 0 e))
-
-  pub item_some : (value ≡ 0 → ⊥) → q ≡ written p (table ++ digits_of n ++ name ++ digits_of value ++ ascii "\n") → q ≡ written p (item_of table n name value)
+module _ (table : List ℕ) (n : ℕ) (name : List ℕ) (value : ℕ) where
+  pub item_none : value ≡ 0 → item_of table n name value ≡ []
   unfolding item_of
-  item_some h e = e ∙ ap (λ (z : Bool). written p (cond z [] (table ++ digits_of n ++ name ++ digits_of value ++ ascii "\n"))) (sym (ne_eqb value 0 h))
+  item_none e = rw (eq-eqb value 0 e)
+
+  pub item_some : (value ≡ 0 → ⊥) → item_of table n name value ≡ table ++ digits_of n ++ name ++ digits_of value ++ ascii "\n"
+  unfolding item_of
+  item_some h = rw (ne_eqb value 0 h)
 
 module _ (f : ℕ → List ℕ) (p : Page) where
   pub up_none : p ≡ written p (up_to f 0)
@@ -107,3 +103,6 @@ module _ (f : ℕ → List ℕ) (p : Page) where
 
   pub up_last : (q : Page) (i n : ℕ) → i ≤ n → n ≤ i → q ≡ written p (up_to f i) → q ≡ written p (up_to f n)
   up_last q i n l m e = e ∙ ap (λ (k : ℕ). written p (up_to f k)) (omega (arith, l, m))
+
+-- one thing put after another, octets and texts
+pub ruleset puts = (written_append, written_more, digits_one, digits_two, digits_pair, item_none, item_some)

@@ -90,6 +90,10 @@ impl<const N: usize> Page<N> {
         }
     }
 
+}
+
+#[tactic(auto, using(crate::proofs::Laws::puts), unfolding(crate::specs::Meaning::written, crate::specs::Meaning::pass_line_of, crate::specs::Meaning::drop_line_of, crate::specs::Meaning::end_line_of, crate::specs::Meaning::refused_line_of, crate::specs::Meaning::filter_items_of, crate::specs::Meaning::gate_items_of))]
+impl<const N: usize> Page<N> {
     // Ruled out: the first one over and over; all at one place.
     pub fn put_octets(&mut self, octets: &[u8])
         ensures { self.new ≡ written self.old octets.now }
@@ -101,7 +105,6 @@ impl<const N: usize> Page<N> {
 
     // In decimal, with no leading zeros.
     // Ruled out: a digit twice; the first digit left out.
-    #[tactic(auto, using(crate::proofs::Laws::puts, crate::proofs::Laws::digits_one, crate::proofs::Laws::digits_two, crate::proofs::Laws::digits_pair))]
     pub fn put_number(&mut self, n: u64)
         ensures { self.new ≡ written self.old (digits_of n) }
     {
@@ -115,7 +118,6 @@ impl<const N: usize> Page<N> {
     }
 
     // The last two digits: two at a time take half as many calls.
-    #[tactic(auto, using(crate::proofs::Laws::puts))]
     fn put_pair(&mut self, n: u64)
         ensures { self.new ≡ written self.old (pair_of n) }
     {
@@ -125,7 +127,6 @@ impl<const N: usize> Page<N> {
 
     // The line of an arrival that passes.
     // Ruled out: the class for the priority; a time of 0 where there is none.
-    #[tactic(auto, using(crate::proofs::Laws::puts), unfolding(crate::specs::Meaning::pass_line_of))]
     pub fn put_pass(&mut self, arrival: u64, p: Pass)
         ensures { self.new ≡ written self.old (pass_line_of arrival p) }
     {
@@ -141,7 +142,6 @@ impl<const N: usize> Page<N> {
         self.put_octet(b'\n');
     }
 
-    #[tactic(auto, using(crate::proofs::Laws::puts))]
     fn put_time(&mut self, time: Option<u64>)
         ensures { self.new ≡ written self.old (time_of time) }
     {
@@ -153,7 +153,6 @@ impl<const N: usize> Page<N> {
 
     // The line of an arrival that is dropped.
     // Ruled out: a drop told as a pass; the reason before the arrival.
-    #[tactic(auto, using(crate::proofs::Laws::puts), unfolding(crate::specs::Meaning::drop_line_of))]
     pub fn put_drop(&mut self, arrival: u64, d: Drop)
         ensures { self.new ≡ written self.old (drop_line_of arrival d) }
     {
@@ -165,7 +164,6 @@ impl<const N: usize> Page<N> {
 
     // The last line where no octet is left.
     // Ruled out: the word of another line; no end of line.
-    #[tactic(auto, using(crate::proofs::Laws::puts), unfolding(crate::specs::Meaning::end_line_of))]
     pub fn put_end(&mut self, records: u64)
         ensures { self.new ≡ written self.old (end_line_of records) }
     {
@@ -175,7 +173,6 @@ impl<const N: usize> Page<N> {
     }
     // The last line at a refusal.
     // Ruled out: number and offset changed over; the word of another line.
-    #[tactic(auto, using(crate::proofs::Laws::puts), unfolding(crate::specs::Meaning::refused_line_of))]
     pub fn put_refused(&mut self, refusal: Refusal, offset: u64)
         ensures { self.new ≡ written self.old (refused_line_of (refusal_number_of refusal) offset) }
     {
@@ -188,25 +185,23 @@ impl<const N: usize> Page<N> {
 
     // All that an operator looks at and that is not 0.
     // Ruled out: the value of another counter; the gates before the filters.
-    #[tactic(auto, using(crate::proofs::Laws::puts), unfolding(crate::specs::Meaning::report_of))]
     pub fn put_report(&mut self, bank: &Bank)
         ensures { self.new ≡ written self.old (report_of (rows_of bank.now)) }
     {
-        for i in 0..sizes::FILTERS {
-            self.put_filter(i as u64, bank.counters_at(i));
+        for filter in 0..sizes::FILTERS {
+            self.put_filter(filter as u64, bank.counters_at(filter));
         }
-        for i in 0..sizes::GATES {
-            self.put_gate(i as u64, bank.gate_at(i));
+        for gate in 0..sizes::GATES {
+            self.put_gate(gate as u64, bank.gate_at(gate));
         }
-        for i in 0..sizes::METERS {
-            self.put_meter(i as u64, bank.meter_at(i));
+        for meter in 0..sizes::METERS {
+            self.put_meter(meter as u64, bank.meter_at(meter));
         }
-        for i in 0..sizes::PORTS {
-            self.put_port(i as u64, bank.port_at(i));
+        for port in 0..sizes::PORTS {
+            self.put_port(port as u64, bank.port_at(port));
         }
     }
 
-    #[tactic(auto, using(crate::proofs::Laws::puts), unfolding(crate::specs::Meaning::filter_items_of))]
     fn put_filter(&mut self, n: u64, c: Counters)
         ensures { self.new ≡ written self.old (filter_items_of n c) }
     {
@@ -219,7 +214,6 @@ impl<const N: usize> Page<N> {
         self.put_item(b"filter ", n, b" oversize ", c.oversize as u64);
     }
 
-    #[tactic(auto, using(crate::proofs::Laws::puts), unfolding(crate::specs::Meaning::gate_items_of))]
     fn put_gate(&mut self, n: u64, g: Gate)
         ensures { self.new ≡ written self.old (gate_items_of n g) }
     {
@@ -240,7 +234,6 @@ impl<const N: usize> Page<N> {
     }
 
     // One line of the report; nothing where the value is 0.
-    #[tactic(auto, using(crate::proofs::Laws::puts), unfolding(crate::specs::Meaning::item_of))]
     fn put_item(&mut self, table: &[u8], n: u64, name: &[u8], value: u64)
         ensures { self.new ≡ written self.old (item_of table.now n name.now value) }
     {

@@ -1,11 +1,14 @@
-use Rattle.std.proofs.Common.{arith, refl}
-use Rattle.setup.specs.Meaning.{some_of}
-use Rattle.setup.proofs.Cases.{some_more}
+-- `any` over the numbers below gate_count is `some_of`.
+use Rattle.std.proofs.Common.{◌∙◌, refl, rules, tests}
+use Rattle.std.proofs.lemmas.Iterator.{YieldsList-from_range}
+use Rattle.std.proofs.lemmas.Iterator.Search.{any_from_yields_List}
+use Rattle.sizes.specs.Meaning.{gate_count}
+use Rattle.bank.specs.Meaning.{rows_of}
+use Rattle.setup.specs.Meaning.{stray_of}
+use Rattle.setup.proofs.Cases.{some_of_any}
 use Rattle.setup.proofs.some_stray.Goals as goal
 
-pub loop-i-init : goal.loop-i-init
-unfolding some_of
-loop-i-init c = (omega arith, refl)
-
-pub loop-i-preserved : goal.loop-i-preserved
-loop-i-preserved c = (omega arith, some_more _ _ _ c.loop-i.invariant.1 _ c.stray-found.ensures)
+pub returns : goal.returns
+returns c =
+    let test = stray_of (rows_of c.args.bank.now) in
+    any_from_yields_List test _ _ _ c.any.ensures.ran (YieldsList-from_range 0 gate_count gate_count refl refl) (λ x b q k. search (rules, tests)) ∙ some_of_any test gate_count

@@ -1,5 +1,0 @@
--- `text::put_number`: it calls itself on a hundredth of the number, which is the measure.
-use Rattle.text.proofs.+put_number.Given as goal
-
-abbrev pub decreases-put_number : goal.decreases-put_number
-decreases-put_number l = l.n
