@@ -1,5 +1,6 @@
 -- An arrival or a clear on two bridges, after the first took its start.
 use Rattle.std.specs.Prelude.{ℕ, true, List, ◌≡◌, refl, None, Some}
+use Rattle.std.proofs.lemmas.Option.{some_pair_parts}
 use Rattle.std.proofs.Common.{sym, ap, ◌∙◌, arith}
 use Rattle.std.proofs.Math.Path.{subst}
 use Rattle.std.proofs.Math.Decide.{ℕ_discrete}
@@ -26,8 +27,8 @@ pub is_grouped : (g : ℕ) (b : Bridge) (a : ArrivalRecord) → Dec (Grouped g b
 is_grouped g b a = by_match (match_of b a) refl
   where
     by_tests : (i : ℕ) (row : Filter) → match_of b a ≡ Some (i, row) → Dec (row.scheduler ≡ 255) → Dec (scheduler_group b.bank row.scheduler ≡ g) → Dec (Grouped g b a)
-    by_tests i row e (yes p) d = no (λ h. h.scheduled (let same_row : h.row ≡ row = cc in ap (λ (f : Filter). f.scheduler) same_row ∙ p))
-    by_tests i row e (no p) (no q) = no (λ h. q (let same_row : row ≡ h.row = cc in ap (λ (f : Filter). scheduler_group b.bank f.scheduler) same_row ∙ h.in_group))
+    by_tests i row e (yes p) d = no (λ h. h.scheduled (let same_row : h.row ≡ row = sym (some_pair_parts i h.place row h.row (sym e ∙ h.matched)).1 in ap (λ (f : Filter). f.scheduler) same_row ∙ p))
+    by_tests i row e (no p) (no q) = no (λ h. q (let same_row : row ≡ h.row = (some_pair_parts i h.place row h.row (sym e ∙ h.matched)).1 in ap (λ (f : Filter). scheduler_group b.bank f.scheduler) same_row ∙ h.in_group))
     by_tests i row e (no p) (yes q) = yes (record { place = i; row = row; matched = e; scheduled = p; in_group = q })
 
     by_match : (f : Found) → match_of b a ≡ f → Dec (Grouped g b a)

@@ -8,7 +8,9 @@ use Rattle.sizes.specs.Meaning.{gate_count, entry_count, entry_octets, list_octe
 use Rattle.gate.specs.declared.Entry.{Entry}
 use Rattle.gate.specs.Meaning.{word_of, entry_at, entries_from, entries_in, entries_of}
 use Rattle.record.specs.declared.GateEntryRecord.{GateEntryRecord}
-use Rattle.record.specs.Meaning.{Kind, port, filter, gate, gate_entry, meter, group, scheduler, start, arrival, clear, fields_of, values_at, record_of, body_in, read_of}
+use Rattle.record.specs.declared.Kind.{Kind}
+use Rattle.record.specs.declared.Kind.TheVariants.{Port as port, Filter as filter, Gate as gate, GateEntry as gate_entry, Meter as meter, Group as group, Scheduler as scheduler, Start as start, Arrival as arrival, Clear as clear}
+use Rattle.record.specs.Meaning.{fields_of, values_at, record_of, body_in, read_of}
 use Rattle.record.proofs.Laws.{read_says, read_uses}
 use Rattle.record.proofs.BodyLaws.{body_octet, read_entry_body}
 use Rattle.setup.specs.Meaning.{entry_body_of}

@@ -8,7 +8,8 @@ use Rattle.sizes.specs.Meaning.{filter_count, entry_count, last_gate}
 use Rattle.logic.specs.Laws.{by_test}
 use Rattle.record.specs.declared.Record.{Record}
 use Rattle.record.specs.declared.ClearRecord.{ClearRecord}
-use Rattle.record.specs.Meaning.{Kind, kind_of, comes, in_turn_of, fields_in_range, record_of, record_length, fields_of, values_at, read_of}
+use Rattle.record.specs.declared.Kind.{Kind}
+use Rattle.record.specs.Meaning.{kind_of, comes, in_turn_of, fields_in_range, record_of, record_length, fields_of, values_at, read_of}
 use Rattle.record.proofs.Sorts.{turn_in}
 use Rattle.record.proofs.Laws.{says_read, read_in_turn}
 use Rattle.record.proofs.Ranges.{read_ranges}

@@ -8,7 +8,8 @@ use Rattle.record.specs.declared.ArrivalRecord.{ArrivalRecord}
 use Rattle.record.specs.declared.GateEntryRecord.{GateEntryRecord}
 use Rattle.record.specs.declared.Refusal.{Refusal}
 use Rattle.record.specs.declared.Refusal.TheVariants.{SetUpAlready}
-use Rattle.record.specs.Meaning.{body_in, Kind, kind_of, record_length}
+use Rattle.record.specs.declared.Kind.{Kind}
+use Rattle.record.specs.Meaning.{body_in, kind_of, record_length}
 use Rattle.record.proofs.Laws.{read_says}
 use Rattle.bank.specs.Meaning.{Rows}
 use Rattle.filter.specs.declared.Filter.{Filter}

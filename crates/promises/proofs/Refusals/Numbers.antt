@@ -19,7 +19,8 @@ use Rattle.record.specs.declared.StartRecord.{StartRecord}
 use Rattle.record.specs.declared.Refusal.{Refusal}
 use Rattle.record.specs.declared.Refusal.TheVariants.{CutShort, OutOfRange, OutOfTurn, SetUpAlready, NinthEntry, Missing, BurstTooSmall, NotSetUp, TableLength}
 use Rattle.record.specs.Meaning.{Reading}
-use Rattle.record.specs.Meaning.{body_in, Kind, kind_of, fields_of, values_at, fields_in_range, refusal_number_of, record_length, length_in, in_turn_of, read_as, read_of}
+use Rattle.record.specs.declared.Kind.{Kind}
+use Rattle.record.specs.Meaning.{body_in, kind_of, fields_of, values_at, fields_in_range, refusal_number_of, record_length, length_in, in_turn_of, read_as, read_of}
 use Rattle.bank.specs.Meaning.{Rows, component, port, entries, gate_is_set, meter_is_set, group, scheduler_is_set}
 use Rattle.filter.specs.Meaning.{Found, no_key}
 use Rattle.filter.specs.Meaning.{is_filter_of, row_of, is_found, counts_of}

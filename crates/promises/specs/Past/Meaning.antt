@@ -17,7 +17,8 @@ use Rattle.record.specs.declared.StartRecord.{StartRecord}
 use Rattle.record.specs.declared.ArrivalRecord.{ArrivalRecord}
 use Rattle.record.specs.declared.ClearRecord.{ClearRecord}
 use Rattle.record.specs.Meaning.{Reading}
-use Rattle.record.specs.Meaning.{Kind, kind_of, length_in, in_turn_in, of_entry, of_start, of_arrival, of_clear}
+use Rattle.record.specs.declared.Kind.{Kind}
+use Rattle.record.specs.Meaning.{kind_of, length_in, in_turn_in, of_entry, of_start, of_arrival, of_clear}
 use Rattle.verdict.specs.Meaning.{Verdict}
 use Rattle.verdict.specs.Meaning.{Refused, Taken, Passed, Dropped}
 use Rattle.setup.specs.Meaning.{some_of}

@@ -4,7 +4,8 @@ use Rattle.std.proofs.Math.Option.{Option, none, some}
 use Rattle.sizes.specs.Meaning.{filter_count, entry_count}
 use Rattle.record.specs.declared.Record.{Record}
 use Rattle.record.specs.declared.ClearRecord.{ClearRecord}
-use Rattle.record.specs.Meaning.{Kind, kind_of, fields_of, values_at, fields_in_range, refusal_number_of, record_of, length_in, in_turn_in, of_entry, of_start, of_arrival, of_clear}
+use Rattle.record.specs.declared.Kind.{Kind}
+use Rattle.record.specs.Meaning.{kind_of, fields_of, values_at, fields_in_range, refusal_number_of, record_of, length_in, in_turn_in, of_entry, of_start, of_arrival, of_clear}
 use Rattle.bank.specs.Meaning.{component, port, gate_is_set, entries, meter_is_set, group, scheduler_is_set}
 use Rattle.filter.specs.Meaning.{Missing, ExceedsBurst, no_key}
 use Rattle.filter.specs.Meaning.{is_filter_of, counts_of, row_of, is_found}
