@@ -25,13 +25,13 @@ pub fn full(burst: Octets) -> u64
     (burst.0 as u64).min(1_000_000) * GRAINS
 }
 
-// The level `d` ns after it was `level`, at a rate of `rate` and never above `cap`, for every number that fits: what doesn't fit 64 bits is
-// above the cap too.
+// The level `d` ns after it was `level`, at a rate of `rate` and never above `cap`, for every number that fits: in 128 bits nothing wraps.
 // Ruled out: a product that wraps and so leaves the bucket nearly empty after a quiet spell; a level above the cap.
 pub fn grow(level: u64, rate: Rate, cap: u64, d: u64) -> u64
     ensures { result ≡ grown level rate.0 cap d }
 {
-    level.saturating_add(rate.0.saturating_mul(d)).min(cap)
+    let filled = level as u128 + rate.0 as u128 * d as u128;
+    filled.min(cap as u128) as u64
 }
 
 // The least whole number of nanoseconds after which a bucket that holds `level` holds `need`. A rate of 0 adds nothing: 0 stands for it,

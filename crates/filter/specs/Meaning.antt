@@ -3,6 +3,8 @@
 use Rattle.std.specs.Prelude.{ℕ, zero, suc, ◌+◌, ◌-◌, Bool, true, false, not, ◌&&◌, ◌||◌, cond, List, eqb, leb, ltb, get_or, Option, Some, None, is_some}
 use Rattle.sizes.specs.Meaning.{filter_count, last_gate, last_meter, last_scheduler}
 use Rattle.frame.specs.Meaning.{length_of}
+use Rattle.record.specs.declared.FilterRecord.{FilterRecord}
+use Rattle.record.specs.declared.ArrivalRecord.{ArrivalRecord}
 use Rattle.bank.specs.Meaning.{Rows, gate_is_set, meter_is_set, scheduler_is_set, burst, component}
 use Rattle.filter.specs.declared.Filter.{Filter}
 use Rattle.filter.specs.declared.Key.{Key}
@@ -12,6 +14,10 @@ use Rattle.filter.specs.declared.Key.{Key}
 -- the empty row: what each place holds in the beginning
 abbrev pub no_row : Filter
 no_row = record { handle = 0; max_sdu = 0; used = 0; any_handle = 0; priority = 0; gate = 0; oversize_block = 0; meter = 0; scheduler = 0 }
+
+-- the row that a filter's record writes
+abbrev pub filter_of : FilterRecord → Filter
+filter_of r = record { handle = r.handle; max_sdu = r.max_sdu; used = 1; any_handle = r.any_handle; priority = r.priority; gate = r.gate; oversize_block = r.oversize_block; meter = r.meter; scheduler = r.scheduler }
 
 -- kind 2, field by field in its order. A number that is 255 names no meter or no scheduler
 unfoldable pub row_in_range : Filter → Bool
@@ -40,6 +46,10 @@ unfoldable pub counts_of : Rows → Filter → Bool
 counts_of s f = is_filter_of f && not (names_missing s f) && not (exceeds_burst s f)
 
 -- ---- a frame
+
+-- what a frame is matched by
+abbrev pub key_of : ArrivalRecord → Key
+key_of a = record { handle = a.handle; priority = a.priority }
 
 -- the row's handle and priority both match a frame's (01, A frame's path, step 1)
 unfoldable pub fits_of : Key → Filter → Bool

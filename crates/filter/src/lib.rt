@@ -6,10 +6,11 @@ ghost use Rattle.std.specs.Prelude.{◌≡◌, Bool, false, set};
 ghost use Rattle.std.specs.Fn.{FnReturnsAt};
 ghost use Rattle.bank.specs.Meaning.{rows_of};
 ghost use Rattle.filter.specs.declared.Filter.{Filter};
-ghost use Rattle.filter.specs.Meaning.{no_row, row_in_range, is_filter_of, names_missing, exceeds_burst, counts_of, fits_of, row_of, Fits, Missing, ExceedsBurst, no_key, of_every_place, search_of};
+ghost use Rattle.filter.specs.Meaning.{no_row, row_in_range, is_filter_of, names_missing, exceeds_burst, counts_of, fits_of, row_of, Fits, Missing, ExceedsBurst, no_key, of_every_place, search_of, filter_of, key_of};
 ghost use Rattle.filter.specs.Search.{first_of_all};
 
 use bank::Bank;
+use record::{ArrivalRecord, FilterRecord};
 
 // A row, as document 01's kind 2 has it but for the identifier, which is the row's place. All numbers: whatever a caller leaves in the
 // table is a row. A row of zeros is empty.
@@ -37,6 +38,39 @@ pub struct Filter {
 pub struct Key {
     pub handle: u32,
     pub priority: u8,
+}
+
+// The row that a filter's record writes.
+// Ruled out: a row that is not used; the meter as the scheduler.
+impl From<FilterRecord> for Filter {
+    ghost from_gives = { λ r row. row ≡ filter_of r };
+
+    fn from(r: FilterRecord) -> Filter {
+        Filter {
+            handle: r.handle,
+            max_sdu: r.max_sdu,
+            used: 1,
+            any_handle: r.any_handle,
+            priority: r.priority,
+            gate: r.gate,
+            oversize_block: r.oversize_block,
+            meter: r.meter,
+            scheduler: r.scheduler,
+        }
+    }
+}
+
+// What a frame is matched by.
+// Ruled out: a handle of 0; the drop mark as the priority.
+impl From<ArrivalRecord> for Key {
+    ghost from_gives = { λ a key. key ≡ key_of a };
+
+    fn from(a: ArrivalRecord) -> Key {
+        Key {
+            handle: a.handle,
+            priority: a.priority,
+        }
+    }
 }
 
 // The row that a frame uses, and its place: the first that fits the frame and counts. Whether it counts is asked last, since most rows are

@@ -116,7 +116,7 @@ impl Meter {
                 & (msdu.0 <= 2000)
     }
 
-    // No sum is wider than 64 bits: of what the committed rate brings, all that matters is what fits in both buckets.
+    // Of what the committed rate brings, all that matters is what fits in both buckets.
     #[tactic(auto, unfolding(crate::specs::Meaning::filled_of))]
     fn fill(self, time: u64) -> Meter
         requires { Ready self time }
@@ -126,6 +126,7 @@ impl Meter {
         let cbs = (self.cbs.0 as u64) * bucket::GRAINS;
         let ebs = (self.ebs.0 as u64) * bucket::GRAINS;
         let committed = bucket::grow(self.committed, self.cir, cbs + ebs, d);
+        let excess = bucket::grow(self.excess, self.eir, ebs, d);
         let over = if self.coupling {
             committed.saturating_sub(cbs)
         } else {
@@ -133,7 +134,7 @@ impl Meter {
         };
         Meter {
             committed: committed.min(cbs),
-            excess: bucket::grow(self.excess + over, self.eir, ebs, d),
+            excess: (excess + over).min(ebs),
             last: time,
             ..self
         }

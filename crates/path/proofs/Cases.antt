@@ -1,4 +1,4 @@
--- The cases of each step of a frame's path, each from the facts that the code has in hand there.
+-- The cases of each step of a frame's path, each from what tells it from the others.
 use Rattle.std.specs.Prelude.{◌≡◌, ℕ, ◌<◌, ◌≤◌, Bool, true, false, not, ◌&&◌, ◌||◌, List, Option, Some, None, ◌==◌, ◌≢◌, nat_lt}
 use Rattle.std.proofs.Common.{ap, ◌∙◌, lt-ltb, le-ltb, eq-eqb, ne_eqb}
 use Rattle.gate.specs.declared.Stepped.{Stepped as GateStepped}
@@ -28,13 +28,6 @@ module _ (s : Rows) (a : ArrivalRecord) (row : Filter) (priority mark : ℕ) whe
       → scheduled_of s a row priority mark ≡ scheduled_by s a row.scheduler j priority mark r.scheduler o
   unfolding scheduled_of
   scheduled_by_lem h j ej r er o eo = rw (ne_eqb _ _ h, ← ej, ← er, eo)
-
--- admitted: the scheduler is stored, then the group's last time, and the frame passes
-pub scheduled_admitted : (s s₁ s₂ : Rows) (a : ArrivalRecord) (i j priority mark at : ℕ) (x : Scheduler) (v : Verdict) → s₁ ≡ with_scheduler_state s i x → s₂ ≡ with_group_last s₁ j at → v ≡ pass_of s₂ priority mark (Some at)
-    → told s₂ v ≡ scheduled_by s a i j priority mark x (Admitted at)
-unfolding scheduled_by
-scheduled_admitted s s₁ s₂ a i j priority mark at x v e₁ e₂ ev =
-    ap (λ (u : Verdict). told s₂ u) ev ∙ ap (λ (t : Rows). told t (pass_of t priority mark (Some at))) (e₂ ∙ ap (λ (t : Rows). with_group_last t j at) e₁)
 
 module _ (s : Rows) (a : ArrivalRecord) (f : ℕ) (row : Filter) (priority : ℕ) where
   pub metered_none : row.meter ≡ 255 → metered_of s a f row priority ≡ scheduled_of s a row priority a.drop_eligible

@@ -1,10 +1,11 @@
-// A frame's path: document 01's five steps, each a function that ends in a drop or in the next step.
+// A frame's path: document 01's five steps. Each answers what the next one needs, or why the frame is dropped.
 #![tactic(auto)]
 
-ghost use Rattle.std.specs.Prelude.{◌≡◌};
-ghost use Rattle.bank.specs.Meaning.{rows_of, bump, with_oversize};
-ghost use Rattle.verdict.specs.Meaning.{told, Dropped, said, verdict_of};
+ghost use Rattle.std.specs.Prelude.{◌≡◌, ℕ, List};
+ghost use Rattle.bank.specs.Meaning.{rows_of};
+ghost use Rattle.verdict.specs.Meaning.{Passed, told, said};
 ghost use Rattle.path.specs.Meaning.{pass_of, scheduled_of, metered_of, gated_of, sdu_filtered_of, arrival_of};
+ghost use Rattle.path.specs.Steps.{onward};
 
 use bank::{Bank, Counter, Lists};
 use bucket::Octets;
@@ -13,7 +14,7 @@ use record::{ArrivalRecord, Refusal};
 use scheduler::Offer;
 use verdict::{Drop, Outcome, Pass};
 
-// An arrival, where `found` is the first filter that matches.
+// 1: an arrival, where `found` is the first filter that matches. None: the frame passes.
 // Ruled out: every frame passing at its arrival time; an arrival that is refused moving the clock.
 #[tactic(auto, unfolding(crate::specs::Meaning::arrival_of))]
 pub fn arrive(
@@ -28,16 +29,18 @@ pub fn arrive(
         return Err(Refusal::TimeGoesBack);
     }
     bank.put_clock(a.time);
-    match found {
-        Some((place, row)) => {
-            let frame = Frame {
-                arrival: a,
-                place,
-                row,
-            };
-            Ok(frame.filter_sdu(bank, lists))
-        }
-        None => Ok(pass(bank, a.priority, a.drop_eligible, None)),
+    let Some((place, row)) = found else {
+        let carried = pass(bank, a.priority, a.drop_eligible, None);
+        return Ok(Outcome::Passed(carried));
+    };
+    let frame = Frame {
+        arrival: a,
+        place,
+        row,
+    };
+    match frame.police(bank, lists) {
+        Ok(carried) => Ok(Outcome::Passed(carried)),
+        Err(why) => Ok(Outcome::Dropped(why)),
     }
 }
 
@@ -50,92 +53,100 @@ struct Frame {
 }
 
 impl Frame {
+    // 2 to 5.
+    fn police(&self, bank: &mut Bank, lists: &Lists) -> Result<Pass, Drop>
+        ensures { onward (rows_of bank.new) result (λ s p. told s (Passed p)) ≡ sdu_filtered_of (rows_of bank.old) lists.now self.now.arrival self.now.place self.now.row }
+    {
+        self.filter_sdu(bank)?;
+        let priority = self.pass_gate(bank, lists)?;
+        let mark = self.meter(bank)?;
+        let eligible = self.schedule(bank)?;
+        Ok(pass(bank, priority, mark, eligible))
+    }
+
     // 2: the maximum SDU filter.
     #[tactic(auto, unfolding(crate::specs::Meaning::sdu_filtered_of, crate::specs::Meaning::sdu_failed, crate::specs::Meaning::sdu_passed))]
-    fn filter_sdu(&self, bank: &mut Bank, lists: &Lists) -> Outcome
-        ensures { told (rows_of bank.new) (verdict_of result) ≡ sdu_filtered_of (rows_of bank.old) lists.now self.now.arrival self.now.place self.now.row }
+    fn filter_sdu(&self, bank: &mut Bank) -> Result<(), Drop>
+        ensures { (lists : List ℕ) → onward (rows_of bank.new) result (λ s _. gated_of s lists self.now.arrival self.now.place self.now.row) ≡ sdu_filtered_of (rows_of bank.old) lists self.now.arrival self.now.place self.now.row }
     {
-        let oversize = bank.counters_at(self.place).oversize;
         let block = self.row.oversize_block == 1;
+        let oversize = bank.counters_at(self.place).oversize;
         bank.count(self.place, Counter::Matching);
-        if block && oversize {
-            return self.drop_sdu(bank, oversize, Drop::OversizeBlocked);
-        }
-        if self.row.max_sdu != 0 && self.row.max_sdu < self.arrival.msdu {
-            return self.drop_sdu(bank, oversize || block, Drop::Oversize);
-        }
-        bank.count(self.place, Counter::PassingSdu);
-        self.reach(bank, lists)
+        let why = if block && oversize {
+            Drop::OversizeBlocked
+        } else if self.row.max_sdu != 0 && self.row.max_sdu < self.arrival.msdu {
+            Drop::Oversize
+        } else {
+            bank.count(self.place, Counter::PassingSdu);
+            return Ok(());
+        };
+        bank.count(self.place, Counter::NotPassingSdu);
+        bank.put_oversize(self.place, oversize || block);
+        Err(why)
     }
 
-    // A drop by the maximum SDU filter, whose oversize flag is then at `flag`.
-    fn drop_sdu(&self, bank: &mut Bank, flag: bool, why: Drop) -> Outcome
-        ensures { told (rows_of bank.new) (verdict_of result) ≡ told (with_oversize (bump (rows_of bank.old) self.now.place Counter.NotPassingSdu) self.now.place flag) (Dropped why) }
-    {
-        let dropped = self.drop_counted(bank, Counter::NotPassingSdu, why);
-        bank.put_oversize(self.place, flag);
-        dropped
-    }
-
-    // A drop that `counter` counts.
-    fn drop_counted(&self, bank: &mut Bank, counter: Counter, why: Drop) -> Outcome
-        ensures { told (rows_of bank.new) (verdict_of result) ≡ told (bump (rows_of bank.old) self.now.place counter) (Dropped why) }
-    {
-        bank.count(self.place, counter);
-        Outcome::Dropped(why)
-    }
-
-    // 3: the gate. Its list is its own part of the lists.
+    // 3: the gate, whose list is its own part of the lists. The internal priority.
     #[tactic(auto, unfolding(crate::specs::Meaning::gated_of, crate::specs::Meaning::gated_by, crate::specs::Meaning::gate_passed, crate::specs::Meaning::gate_failed))]
-    fn reach(&self, bank: &mut Bank, lists: &Lists) -> Outcome
-        ensures { told (rows_of bank.new) (verdict_of result) ≡ gated_of (rows_of bank.old) lists.now self.now.arrival self.now.place self.now.row }
+    fn pass_gate(&self, bank: &mut Bank, lists: &Lists) -> Result<u8, Drop>
+        ensures { onward (rows_of bank.new) result (λ s priority. metered_of s self.now.arrival self.now.place self.now.row priority) ≡ gated_of (rows_of bank.old) lists.now self.now.arrival self.now.place self.now.row }
     {
         let i = self.row.gate as usize;
         let from = i % sizes::GATES * sizes::LIST;
         let list = &lists[from..from + bank.entries_at(i) * sizes::ENTRY];
-        let stepped = gate::step(bank.gate_at(i), list, self.arrival.time, self.arrival.msdu as u64);
+        let stepped = gate::step(
+            bank.gate_at(i),
+            list,
+            self.arrival.time,
+            self.arrival.msdu as u64,
+        );
         bank.put_gate_state(i, stepped.gate);
-        match stepped.outcome {
+        let why = match stepped.outcome {
             gate::Outcome::Passed(ipv) => {
                 bank.count(self.place, Counter::Passing);
-                let priority = if ipv <= 7 { ipv } else { self.arrival.priority };
-                self.meter(bank, priority)
+                return Ok(if ipv <= 7 { ipv } else { self.arrival.priority });
             }
-            gate::Outcome::Blocked => self.drop_counted(bank, Counter::NotPassing, Drop::GateBlocked),
-            gate::Outcome::Closed => self.drop_counted(bank, Counter::NotPassing, Drop::GateClosed),
-            gate::Outcome::TooManyOctets => self.drop_counted(bank, Counter::NotPassing, Drop::GateOctets),
-        }
+            gate::Outcome::Blocked => Drop::GateBlocked,
+            gate::Outcome::Closed => Drop::GateClosed,
+            gate::Outcome::TooManyOctets => Drop::GateOctets,
+        };
+        bank.count(self.place, Counter::NotPassing);
+        Err(why)
     }
 
-    // 4: the meter, if named.
+    // 4: the meter, if named. The drop mark.
     #[tactic(auto, unfolding(crate::specs::Meaning::metered_of, crate::specs::Meaning::metered_by, crate::specs::Meaning::red_counted))]
-    fn meter(&self, bank: &mut Bank, priority: u8) -> Outcome
-        ensures { told (rows_of bank.new) (verdict_of result) ≡ metered_of (rows_of bank.old) self.now.arrival self.now.place self.now.row priority }
+    fn meter(&self, bank: &mut Bank) -> Result<u8, Drop>
+        ensures { (priority : ℕ) → onward (rows_of bank.new) result (λ s mark. scheduled_of s self.now.arrival self.now.row priority mark) ≡ metered_of (rows_of bank.old) self.now.arrival self.now.place self.now.row priority }
     {
-        let a = self.arrival;
+        let mark = self.arrival.drop_eligible;
         if self.row.meter == 255 {
-            return self.schedule(bank, priority, a.drop_eligible);
+            return Ok(mark);
         }
         let i = self.row.meter as usize;
-        let metered = bank.meter_at(i).colour(a.time, Octets(a.msdu as u32), a.drop_eligible != 0);
+        let msdu = Octets(self.arrival.msdu as u32);
+        let metered = bank
+            .meter_at(i)
+            .colour(self.arrival.time, msdu, mark != 0);
         bank.put_meter_state(i, metered.meter);
-        match metered.outcome {
-            meter::Outcome::Green => self.schedule(bank, priority, a.drop_eligible),
-            meter::Outcome::Yellow => self.schedule(bank, priority, 1),
-            meter::Outcome::YellowDropped => self.drop_counted(bank, Counter::Red, Drop::Yellow),
+        let why = match metered.outcome {
+            meter::Outcome::Green => return Ok(mark),
+            meter::Outcome::Yellow => return Ok(1),
+            meter::Outcome::YellowDropped => Drop::Yellow,
             meter::Outcome::Red | meter::Outcome::OutOfRange | meter::Outcome::TooEarly => {
-                self.drop_counted(bank, Counter::Red, Drop::Red)
+                Drop::Red
             }
-        }
+        };
+        bank.count(self.place, Counter::Red);
+        Err(why)
     }
 
-    // 5: the scheduler, if named.
+    // 5: the scheduler, if named. The eligibility time, if there is one.
     #[tactic(auto, unfolding(crate::specs::Meaning::scheduled_of, crate::specs::Meaning::scheduled_by, crate::specs::Meaning::discard_counted))]
-    fn schedule(&self, bank: &mut Bank, priority: u8, mark: u8) -> Outcome
-        ensures { told (rows_of bank.new) (verdict_of result) ≡ scheduled_of (rows_of bank.old) self.now.arrival self.now.row priority mark }
+    fn schedule(&self, bank: &mut Bank) -> Result<Option<u64>, Drop>
+        ensures { (priority mark : ℕ) → onward (rows_of bank.new) result (λ s eligible. told s (pass_of s priority mark eligible)) ≡ scheduled_of (rows_of bank.old) self.now.arrival self.now.row priority mark }
     {
         if self.row.scheduler == 255 {
-            return pass(bank, priority, mark, None);
+            return Ok(None);
         }
         let i = self.row.scheduler as usize;
         let j = bank.scheduler_group(i);
@@ -151,26 +162,26 @@ impl Frame {
             scheduler::Outcome::Admitted { at } => {
                 bank.put_scheduler_state(i, stepped.scheduler);
                 bank.put_group_last(j, at);
-                pass(bank, priority, mark, Some(at))
+                Ok(Some(at))
             }
             scheduler::Outcome::Dropped | scheduler::Outcome::Refused => {
                 bank.put_discarded(self.arrival.port as usize, port.discarded.wrapping_add(1));
-                Outcome::Dropped(Drop::Residence)
+                Err(Drop::Residence)
             }
         }
     }
 }
 
-// A pass, with what it carries.
+// What a frame that passes carries.
 #[tactic(auto, unfolding(crate::specs::Meaning::pass_of))]
-fn pass(bank: &Bank, priority: u8, drop_mark: u8, eligible: Option<u64>) -> Outcome
-    ensures { verdict_of result ≡ pass_of (rows_of bank.now) priority drop_mark eligible }
+fn pass(bank: &Bank, priority: u8, drop_mark: u8, eligible: Option<u64>) -> Pass
+    ensures { Passed result ≡ pass_of (rows_of bank.now) priority drop_mark eligible }
 {
     let classes = (bank.component_at().classes % 256) as u8;
-    Outcome::Passed(Pass {
+    Pass {
         priority,
         class: class::traffic_class(priority, classes).unwrap_or(0),
         drop_mark,
         eligible,
-    })
+    }
 }

@@ -9,9 +9,9 @@ use Rattle.logic.specs.Laws.{both}
 use Rattle.record.specs.declared.Record.{Record}
 use Rattle.record.specs.declared.Refusal.{Refusal}
 use Rattle.record.specs.declared.Refusal.TheVariants.{CutShort, OutOfRange, OutOfTurn}
-use Rattle.record.specs.Meaning.{Kind, port, filter, gate, gate_entry, meter, group, scheduler, start, arrival, clear, kinds, kind_of, known_as, Turn, before, after, Field, octet_of, turn_of, fields_of, widths_of, fields_in_range, number_at, values_at, big_endian_of, encoded_of, record_of, record_length, length_in, comes, in_turn_of, in_turn_in, Reading, read_as, read_of}
+use Rattle.record.specs.Meaning.{Kind, port, filter, gate, gate_entry, meter, group, scheduler, start, arrival, clear, kinds, kind_of, known_as, Turn, before, after, Field, octet_of, turn_of, fields_of, widths_of, fields_in_range, number_at, values_at, big_endian_of, encoded_of, record_of, record_length, comes, in_turn_of, Reading, read_as, read_of}
 use Rattle.record.proofs.Sorts.{turn_in, Setup}
-use Rattle.record.proofs.Cases.{length_positive, read_turn}
+use Rattle.record.proofs.Cases.{length_positive, read_out_of_turn}
 
 -- ---- octets that agree say the same numbers
 
@@ -182,7 +182,7 @@ turned after e = sym e
 pub read_late : (s : List ℕ) (r : Record) (used : ℕ) → read_of s false ≡ Ok (r, used) → read_of s true ≡ Err OutOfTurn
 read_late s r used e =
     let y = read_says s false r used e in
-    read_turn s true (omega (arith, length_positive y.kind, y.whole)) y.kind (ap known_as y.said) y.whole (turned (turn_of y.kind) y.in_turn)
+    read_out_of_turn s true y.kind (ap known_as y.said) y.whole (turned (turn_of y.kind) y.in_turn)
 
 -- ---- what is read encodes to the same octets
 

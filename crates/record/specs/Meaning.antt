@@ -297,10 +297,6 @@ abbrev pub in_turn_in : Option Kind → Bool → Bool
 in_turn_in none started = false
 in_turn_in (some k) started = in_turn_of k started
 
-abbrev pub whole_in : Option Kind → List ℕ → Reading
-whole_in none s = Err UnknownKind
-whole_in (some k) s = whole_of k s
-
 -- octets that are lent: the block they lie in, the place of the first, and what they are. Two views are equal only where they show the very
 -- same octets, and no copy of them
 pub record View : Type 0 where

@@ -1,8 +1,10 @@
 -- What a step of the reader gives.
-use Rattle.std.specs.Prelude.{ℕ, cond, List, Option, Some, None}
+use Rattle.std.specs.Prelude.{Option, Some, None, Ok, Err}
 use Rattle.record.specs.declared.Record.{Record}
-use Rattle.record.specs.Meaning.{Kind, fields_of, fields_in_range, values_at, record_of}
+use Rattle.record.specs.declared.Refusal.TheVariants.{OutOfRange}
+use Rattle.record.specs.Meaning.{Kind, Reading, record_length}
 
--- the record that these octets make of this kind, if its fields are in range
-abbrev pub ranged_in : Kind → List ℕ → Option Record
-ranged_in k s = let vs = values_at s 1 (fields_of k) in cond (fields_in_range k vs) (Some (record_of k vs)) None
+-- what reading a record of this kind gives, whose octets are all there, where its fields give the record or are out of range
+abbrev pub reading_of : Kind → Option Record → Reading
+reading_of k None = Err OutOfRange
+reading_of k (Some r) = Ok (r, record_length k)

@@ -3,8 +3,8 @@
 #![tactic(auto)]
 
 ghost use Rattle.std.specs.Prelude.{◌≡◌, ◌+◌, ◌≤◌, length, option_map};
-ghost use Rattle.record.specs.Meaning.{kind_said, number_at, port, filter, gate, gate_entry, meter, group, scheduler, start, arrival, clear, refusal_number_of, record_length, in_turn_of, read_of, view_of, body_of};
-ghost use Rattle.record.specs.Steps.{ranged_in};
+ghost use Rattle.record.specs.Meaning.{kind_said, number_at, port, filter, gate, gate_entry, meter, group, scheduler, start, arrival, clear, refusal_number_of, record_length, in_turn_of, whole_of, read_of, view_of, body_of};
+ghost use Rattle.record.specs.Steps.{reading_of};
 
 use bucket::{Octets, Rate};
 
@@ -119,7 +119,7 @@ pub enum Record {
     Clear(ClearRecord),
 }
 
-// 01, Refusal numbers.
+// 01, Refusal numbers: why a record is refused, with the number of each reason.
 #[derive(Clone, Copy)]
 pub enum Refusal {
     CutShort = 1,
@@ -159,7 +159,7 @@ pub enum Kind {
     Clear,
 }
 
-// Ruled out: a kind above 10 that is taken; two kinds the other way round.
+// Ruled out: a kind above 10 that is taken; an arrival taken for a clear.
 impl TryFrom<u8> for Kind {
     type Error = Refusal;
 
@@ -214,6 +214,7 @@ impl Kind {
 
 // The first record of the input, and how many octets it uses, its kind included. Octets after it are not looked at.
 // Ruled out: a kind above 10 that is taken; a record out of its turn whose field out of range is named instead.
+#[tactic(auto, unfolding(crate::specs::Meaning::read_of, crate::specs::Meaning::read_as))]
 pub fn read(input: &[u8], started: bool) -> Result<(Record, usize), Refusal>
     ensures { result ≡ read_of input.now started }
 {
@@ -250,7 +251,7 @@ impl Record {
     // A record whose octets are all there, if its fields are in range.
     fn read(kind: Kind, s: &[u8]) -> Option<Record>
         requires { record_length kind ≤ length s.now }
-        ensures { result ≡ ranged_in kind s.now }
+        ensures { reading_of kind result ≡ whole_of kind s.now }
     {
         Some(match kind {
             Kind::Port => Record::Port(PortRecord::read(s)?),
@@ -270,7 +271,7 @@ impl Record {
 impl PortRecord {
     fn read(s: &[u8]) -> Option<PortRecord>
         requires { 3 ≤ length s.now }
-        ensures { option_map Record.Port result ≡ ranged_in port s.now }
+        ensures { reading_of port (option_map Record.Port result) ≡ whole_of port s.now }
     {
         let r = PortRecord {
             port: s[1],
@@ -284,7 +285,7 @@ impl PortRecord {
 impl FilterRecord {
     fn read(s: &[u8]) -> Option<FilterRecord>
         requires { 14 ≤ length s.now }
-        ensures { option_map Record.Filter result ≡ ranged_in filter s.now }
+        ensures { reading_of filter (option_map Record.Filter result) ≡ whole_of filter s.now }
     {
         let r = FilterRecord {
             id: s[1],
@@ -314,7 +315,7 @@ impl FilterRecord {
 impl GateRecord {
     fn read(s: &[u8]) -> Option<GateRecord>
         requires { 14 ≤ length s.now }
-        ensures { option_map Record.Gate result ≡ ranged_in gate s.now }
+        ensures { reading_of gate (option_map Record.Gate result) ≡ whole_of gate s.now }
     {
         let r = GateRecord {
             id: s[1],
@@ -337,7 +338,7 @@ impl GateRecord {
 impl GateEntryRecord {
     fn read(s: &[u8]) -> Option<GateEntryRecord>
         requires { 12 ≤ length s.now }
-        ensures { option_map Record.GateEntry result ≡ ranged_in gate_entry s.now }
+        ensures { reading_of gate_entry (option_map Record.GateEntry result) ≡ whole_of gate_entry s.now }
     {
         let r = GateEntryRecord {
             gate: s[1],
@@ -358,7 +359,7 @@ impl GateEntryRecord {
 impl MeterRecord {
     fn read(s: &[u8]) -> Option<MeterRecord>
         requires { 30 ≤ length s.now }
-        ensures { option_map Record.Meter result ≡ ranged_in meter s.now }
+        ensures { reading_of meter (option_map Record.Meter result) ≡ whole_of meter s.now }
     {
         let r = MeterRecord {
             id: s[1],
@@ -387,7 +388,7 @@ impl MeterRecord {
 impl GroupRecord {
     fn read(s: &[u8]) -> Option<GroupRecord>
         requires { 6 ≤ length s.now }
-        ensures { option_map Record.Group result ≡ ranged_in group s.now }
+        ensures { reading_of group (option_map Record.Group result) ≡ whole_of group s.now }
     {
         let r = GroupRecord {
             id: s[1],
@@ -403,7 +404,7 @@ impl GroupRecord {
 impl SchedulerRecord {
     fn read(s: &[u8]) -> Option<SchedulerRecord>
         requires { 15 ≤ length s.now }
-        ensures { option_map Record.Scheduler result ≡ ranged_in scheduler s.now }
+        ensures { reading_of scheduler (option_map Record.Scheduler result) ≡ whole_of scheduler s.now }
     {
         let r = SchedulerRecord {
             id: s[1],
@@ -424,7 +425,7 @@ impl SchedulerRecord {
 impl StartRecord {
     fn read(s: &[u8]) -> Option<StartRecord>
         requires { 2 ≤ length s.now }
-        ensures { option_map Record.Start result ≡ ranged_in start s.now }
+        ensures { reading_of start (option_map Record.Start result) ≡ whole_of start s.now }
     {
         let r = StartRecord { classes: s[1] };
         let fits = (1 <= r.classes) & (r.classes <= 8);
@@ -435,7 +436,7 @@ impl StartRecord {
 impl ArrivalRecord {
     fn read(s: &[u8]) -> Option<ArrivalRecord>
         requires { 18 ≤ length s.now }
-        ensures { option_map Record.Arrival result ≡ ranged_in arrival s.now }
+        ensures { reading_of arrival (option_map Record.Arrival result) ≡ whole_of arrival s.now }
     {
         let r = ArrivalRecord {
             port: s[1],
@@ -457,7 +458,7 @@ impl ArrivalRecord {
 impl ClearRecord {
     fn read(s: &[u8]) -> Option<ClearRecord>
         requires { 3 ≤ length s.now }
-        ensures { option_map Record.Clear result ≡ ranged_in clear s.now }
+        ensures { reading_of clear (option_map Record.Clear result) ≡ whole_of clear s.now }
     {
         let r = ClearRecord {
             flag: s[1],

@@ -1,4 +1,4 @@
--- The cases of the definitions in Setup, each from the facts that a function has in hand.
+-- The cases of the definitions in Setup, and what the loops of the code come to.
 use Rattle.std.specs.Prelude.{ℕ, zero, suc, ◌+◌, ◌-◌, ◌≤◌, ◌<◌, Bool, true, false, ◌||◌, List, [], ◌∷◌, ◌≡◌, eqb, slice_set}
 use Rattle.std.proofs.Math.Bool.{or-false, or_assoc}
 use Rattle.std.specs.List.{list_any, range_with_len}
@@ -73,10 +73,6 @@ kept_more ws body kept at k v below e h =
     let more : entry_octets - k ≡ suc (entry_octets - suc k) = omega arith in
     rw (e, add-one) (rw more at h)
 
--- the flag is none of 1 to 4
-abbrev pub Others : ℕ → Type 0
-Others n = ((((Unit {0} × (n ≡ 1 → ⊥)) × (n ≡ 2 → ⊥)) × (n ≡ 3 → ⊥)) × (n ≡ 4 → ⊥))
-
 module _ (s : Rows) (r : ClearRecord) (row : Filter) where
   pub clear_oversize : r.flag ≡ 1 → clear_of s r row ≡ clear_oversize_of s r.id row
   unfolding clear_of
@@ -93,10 +89,6 @@ module _ (s : Rows) (r : ClearRecord) (row : Filter) where
   pub clear_red : r.flag ≡ 4 → clear_of s r row ≡ clear_red_of s r.id
   unfolding clear_of
   clear_red e = rw e
-
-  pub clear_none : Others r.flag → clear_of s r row ≡ told s (Refused NotSetUp)
-  unfolding clear_of
-  clear_none o = rw (ne_eqb r.flag 1 o.0.0.0.1, ne_eqb r.flag 2 o.0.0.1, ne_eqb r.flag 3 o.0.1, ne_eqb r.flag 4 o.1)
 
 -- what holds of each flag's clear, and where there is no such flag, holds of the clear
 pub clear_by_lem : (P : Told → Type 0) (s : Rows) (r : ClearRecord) (row : Filter) → (r.flag ≡ 1 → P (clear_oversize_of s r.id row)) → (r.flag ≡ 2 → P (clear_invalid_receive_of s r.id)) → (r.flag ≡ 3 → P (clear_octets_of s r.id))

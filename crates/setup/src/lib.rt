@@ -29,8 +29,8 @@ pub fn set_port(bank: &mut Bank, r: PortRecord) -> Result<(), Refusal>
     if old.set {
         return Err(Refusal::SetUpAlready);
     }
-    let component = bank.component_at();
-    bank.put_overhead(component.overhead.max(r.overhead as u64));
+    let largest = bank.component_at().overhead;
+    bank.put_overhead(largest.max(r.overhead as u64));
     bank.put_port(
         i,
         Port {
@@ -76,17 +76,13 @@ pub fn add_entry(
 {
     let i = r.gate as usize;
     let n = bank.entries_at(i);
-    if n < sizes::ENTRIES {
-        keep(
-            lists,
-            i % sizes::GATES * sizes::LIST + n * sizes::ENTRY,
-            body,
-        );
-        bank.put_entries(i, n + 1);
-        Ok(())
-    } else {
-        Err(Refusal::NinthEntry)
+    if sizes::ENTRIES <= n {
+        return Err(Refusal::NinthEntry);
     }
+    let at = i % sizes::GATES * sizes::LIST + n * sizes::ENTRY;
+    keep(lists, at, body);
+    bank.put_entries(i, n + 1);
+    Ok(())
 }
 
 // The octets of a body, kept at `at`; 0 for one past its end.

@@ -1,17 +1,18 @@
 -- What a stream of records from standard input comes to, and its last line.
-use Rattle.std.specs.Prelude.{◌≡◌, ℕ, ◌%◌, ◌^◌, Bool, cond, ◌&&◌, List, [], length, ◌==◌}
+use Rattle.std.specs.Prelude.{◌≡◌, ℕ, ◌%◌, ◌^◌, cond, Option, Some, None, List, [], length, ◌==◌}
 use Rattle.sizes.specs.Meaning.{filter_count}
 use Rattle.record.specs.declared.Refusal.{Refusal}
+use Rattle.record.specs.declared.Refusal.TheVariants.{CutShort}
 use Rattle.record.specs.Meaning.{refusal_number_of}
 use Rattle.bank.specs.Meaning.{Rows}
 use Rattle.filter.specs.declared.Filter.{Filter}
 use Rattle.filter.specs.Meaning.{no_row}
-use Rattle.verdict.specs.declared.Answer.{Answer}
+use Rattle.verdict.specs.Meaning.{Answer}
 use Rattle.stage.specs.Meaning.{bridge}
 use Rattle.text.specs.Meaning.{end_line_of, refused_line_of}
 use Rattle.run.specs.Input.Meaning.{Front, Input, used_in}
 use Rattle.pieces.specs.declared.Failure.{Failure}
-use Rattle.pieces.specs.declared.Failure.TheVariants.{Nothing, Input as InputFailure, Output}
+use Rattle.pieces.specs.declared.Failure.TheVariants.{Output}
 use Rattle.promises.specs.Meaning.{repeated}
 use Rattle.stream.specs.declared.Drained.{Drained}
 
@@ -19,16 +20,10 @@ use Rattle.stream.specs.declared.Drained.{Drained}
 abbrev pub empty_table : List Filter
 empty_table = repeated no_row filter_count
 
--- a body cut short, where no octet is left, is no refusal but the end: 0
-unfoldable pub ended_of : ℕ → ℕ → ℕ
-ended_of refusal left = cond (refusal == 1 && left == 0) 0 refusal
-
--- a stream that goes on after all its turns is given up as one that cannot be read
-abbrev pub failure_of : Bool → Failure → Failure
-failure_of more failure = cond more InputFailure failure
-
-abbrev pub write_failure_of : Bool → Failure
-write_failure_of written = cond written Nothing Output
+-- a body cut short, where no octet is left, is no refusal but the end
+abbrev pub ended_of : Refusal → ℕ → Option Refusal
+ended_of CutShort left = cond (left == 0) None (Some CutShort)
+ended_of why left = Some why
 
 -- for some octets that were read, the stream has taken records at their front, from an empty table and the bank and lists as they were; and unless something has
 -- failed, it has come to the end of that input
@@ -40,23 +35,23 @@ pub record Drains (bank : Rows) (lists : List ℕ) (bank' : Rows) (lists' : List
   pub front : Front (bridge empty_table bank lists) input answers (bridge table bank' lists') rest
   pub records : d.records ≡ length answers % 2 ^ 64
   pub octets : d.octets ≡ used_in answers % 2 ^ 64
-  pub whole : d.failure ≡ Nothing
-      → (why : Refusal) × (Input (bridge empty_table bank lists) input answers (bridge table bank' lists') rest why × (d.refusal ≡ ended_of (refusal_number_of why) (length rest)))
+  pub whole : d.failure ≡ None
+      → (why : Refusal) × (Input (bridge empty_table bank lists) input answers (bridge table bank' lists') rest why × (d.refusal ≡ ended_of why (length rest)))
 
 -- a report leaves the end as it was, or says that it could not be written
 pub data Reported (d : Drained) : Drained → Type 0 where
   as_it_was : Reported d d
-  unwritten : d.failure ≡ Nothing → Reported d (record { failure = Output; refusal = d.refusal; records = d.records; octets = d.octets })
+  unwritten : d.failure ≡ None → Reported d (record { failure = Some Output; refusal = d.refusal; records = d.records; octets = d.octets })
 
 -- the records taken, or the refusal and the octets taken before it
-abbrev pub end_of : Drained → List ℕ
-end_of d = cond (d.refusal == 0) (end_line_of d.records) (refused_line_of d.refusal d.octets)
+abbrev pub end_by : Option Refusal → Drained → List ℕ
+end_by None d = end_line_of d.records
+end_by (Some why) d = refused_line_of (refusal_number_of why) d.octets
 
 -- no line where something has failed
-abbrev pub line_by : Failure → Drained → List ℕ
-line_by Nothing d = end_of d
-line_by InputFailure d = []
-line_by Output d = []
+abbrev pub line_by : Option Failure → Drained → List ℕ
+line_by None d = end_by d.refusal d
+line_by (Some failure) d = []
 
 unfoldable pub last_line_of : Drained → List ℕ
 last_line_of d = line_by d.failure d

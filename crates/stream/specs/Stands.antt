@@ -1,23 +1,20 @@
 -- Where a stream stands between two pieces, from the first bridge on: what was read is taken but for the octets that wait at the front of the buffer.
-use Rattle.std.specs.Prelude.{◌≡◌, ℕ, ◌%◌, ◌^◌, ◌≤◌, false, List, length, take}
+use Rattle.std.specs.Prelude.{◌≡◌, ℕ, ◌%◌, ◌^◌, ◌≤◌, List, length, take}
 use Rattle.sizes.specs.Meaning.{filter_count}
 use Rattle.bank.specs.Meaning.{Rows}
-use Rattle.verdict.specs.declared.Answer.{Answer}
+use Rattle.verdict.specs.Meaning.{Answer}
 use Rattle.stage.specs.Meaning.{Bridge, bridge}
 use Rattle.run.specs.Input.Meaning.{Front, used_in, arrivals_in}
-use Rattle.pieces.specs.declared.Failure.TheVariants.{Nothing}
 use Rattle.promises.specs.Pieces.Meaning.{Stops}
-use Rattle.stream.specs.declared.State.{State}
+use Rattle.stream.specs.declared.Stream.{Stream}
 
-pub record Stands (b : Bridge) (s : State) (bank : Rows) (lists : List ℕ) (buf : List ℕ) : Type 0 where
+pub record Stands (b : Bridge) (s : Stream) (bank : Rows) (lists : List ℕ) : Type 0 where
   pub input : List ℕ
   pub answers : List Answer
-  pub front : Front b input answers (bridge s.table bank lists) (take s.kept buf)
-  pub within : s.kept ≤ length buf
+  pub front : Front b input answers (bridge s.table bank lists) (take s.kept s.buffer)
+  pub within : s.kept ≤ length s.buffer
   pub full : length b.table ≡ filter_count
   pub records : s.progress.records ≡ length answers % 2 ^ 64
   pub arrivals : s.progress.arrivals ≡ arrivals_in answers % 2 ^ 64
   pub octets : s.octets ≡ used_in answers % 2 ^ 64
-  pub stops : Stops (bridge s.table bank lists) (take s.kept buf) s.progress
-  -- where it has come to its end, a refusal has stopped it or no octet is left
-  pub over : s.more ≡ false → s.failure ≡ Nothing → s.progress.refusal ≡ 0 → s.kept ≡ 0
+  pub stops : Stops (bridge s.table bank lists) (take s.kept s.buffer) s.progress

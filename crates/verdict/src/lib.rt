@@ -4,23 +4,23 @@
 ghost use Rattle.std.specs.Prelude.{◌≡◌};
 ghost use Rattle.verdict.specs.Meaning.{drop_number_of};
 
-// Why a frame is dropped. `drop_number_of` in specs/ has document 01's number for each case.
+// Why a frame is dropped, with document 01's number of each reason.
 #[derive(Clone, Copy)]
 pub enum Drop {
     // The oversize flag stands.
-    OversizeBlocked,
+    OversizeBlocked = 1,
     // The MSDU is greater than the filter's max SDU.
-    Oversize,
+    Oversize = 2,
     // The gate's invalid-receive or octets flag stands.
-    GateBlocked,
-    GateClosed,
+    GateBlocked = 3,
+    GateClosed = 4,
     // The MSDU is greater than the octets left.
-    GateOctets,
+    GateOctets = 5,
     // Yellow, with drop on yellow.
-    Yellow,
-    Red,
+    Yellow = 6,
+    Red = 7,
     // Residence exceeded.
-    Residence,
+    Residence = 8,
 }
 
 // Ruled out: drop 7 for a closed gate; one number for two reasons.
@@ -28,16 +28,7 @@ impl From<Drop> for u8 {
     ghost from_gives = { λ d n. n ≡ drop_number_of d };
 
     fn from(d: Drop) -> u8 {
-        match d {
-            Drop::OversizeBlocked => 1,
-            Drop::Oversize => 2,
-            Drop::GateBlocked => 3,
-            Drop::GateClosed => 4,
-            Drop::GateOctets => 5,
-            Drop::Yellow => 6,
-            Drop::Red => 7,
-            Drop::Residence => 8,
-        }
+        d as u8
     }
 }
 

@@ -1,9 +1,7 @@
 -- An input of many records: the answers to them one after another, how it ends, and what is counted and printed of the answers.
 use Rattle.std.specs.Prelude.{◌≡◌, ℕ, ◌+◌, ◌%◌, ◌^◌, Bool, cond, ◌≢◌, List, [], ◌∷◌, ◌++◌, drop}
 use Rattle.record.specs.declared.Refusal.{Refusal}
-use Rattle.verdict.specs.declared.Answer.{Answer}
-use Rattle.verdict.specs.declared.Verdict.{Verdict}
-use Rattle.verdict.specs.declared.Verdict.TheVariants.{Refused, Taken, Passed, Dropped}
+use Rattle.verdict.specs.Meaning.{Verdict, Refused, Taken, Passed, Dropped, Answer}
 use Rattle.stage.specs.Meaning.{Bridge, Took, take_of}
 use Rattle.text.specs.Meaning.{pass_line_of, drop_line_of}
 
