@@ -1,11 +1,12 @@
 -- The room of a record's line: no line of a record that is read is longer than `record_room`.
-use Rattle.std.specs.Prelude.{ℕ, zero, suc, ◌+◌, ◌*◌, ◌<◌, ◌≤◌, Bool, cond, List, [], ◌∷◌, ◌++◌, ◌≡◌, refl, eqb, ltb, length, take, drop}
+use Rattle.std.specs.Prelude.{ℕ, zero, suc, ◌+◌, ◌*◌, ◌<◌, ◌≤◌, Bool, cond, Ok, List, [], ◌∷◌, ◌++◌, ◌≡◌, refl, eqb, ltb, length, take, drop}
 use Rattle.std.proofs.Common.{ap, arith, ltb-true, ltb-false, length-append, length-take, get_or-take, get_or-drop}
 use Rattle.std.proofs.Math.ListN.{get_or-eq_default}
 use Rattle.logic.specs.Laws.{by_test, if_by}
 use Rattle.record.specs.declared.Record.{Record}
-use Rattle.record.specs.declared.Reading.TheVariants.{Taken}
-use Rattle.record.specs.Meaning.{Kind, port, filter, gate, gate_entry, meter, group, scheduler, start, arrival, clear, Field, fields_of, number_at, values_at, read_of}
+use Rattle.record.specs.declared.Kind.{Kind}
+use Rattle.record.specs.declared.Kind.TheVariants.{Port as port, Filter as filter, Gate as gate, GateEntry as gate_entry, Meter as meter, Group as group, Scheduler as scheduler, Start as start, Arrival as arrival, Clear as clear}
+use Rattle.record.specs.Meaning.{Field, fields_of, number_at, values_at, read_of}
 use Rattle.record.proofs.Laws.{Octets, read_says}
 use Rattle.text.specs.Meaning.{page, written, ascii, digits_of}
 use Rattle.text.proofs.Room.{whole_line, written_whole, tens, digits_most}
@@ -115,7 +116,7 @@ octets_part s n at o i =
     (λ e. omega (arith, get_or-take n (drop at s) i 0 (ltb-true i n e), get_or-drop at s i 0, o (at + i)))
     (λ e. omega (arith, get_or-eq_default (take n (drop at s)) 0 {n = i} (omega (arith, length-take n (drop at s), ltb-false i n e))))
 
-pub record_room_lem : (s : List ℕ) (started : Bool) (r : Record) (used : ℕ) → Octets s → read_of s started ≡ Taken r used → length (line_of r) ≤ record_room
+pub record_room_lem : (s : List ℕ) (started : Bool) (r : Record) (used : ℕ) → Octets s → read_of s started ≡ Ok (r, used) → length (line_of r) ≤ record_room
 record_room_lem s started r used o e =
     let y = read_says s started r used e in
     omega (arith, ap length (line_of_read s started r used y), line_room_lem y.kind _ (values_fit s o (fields_of y.kind) 1))

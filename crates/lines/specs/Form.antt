@@ -1,12 +1,9 @@
 -- What the code writes a line from: a form, a text in which capital letters, its marks, stand for values.
-use Rattle.std.specs.Prelude.{ℕ, Bool, cond, ◌&&◌, leb, eqb}
+use Rattle.std.specs.Prelude.{ℕ, cond, ◌&&◌, eqb}
+use Rattle.std.specs.Char.{is_ascii_uppercase}
 use Prim.Native.Char.{code}
 use mathlib.Core.List.{List, [], ◌∷◌, ◌++◌}
 use Rattle.text.specs.Meaning.{ascii, digits_of}
-
--- A to Z
-abbrev pub is_mark : ℕ → Bool
-is_mark c = leb (code "A") c && leb c (code "Z")
 
 -- a value at its mark
 unfoldable pub shown_as : ℕ → ℕ → List ℕ
@@ -23,4 +20,4 @@ handle_as any handle = cond (eqb any 1) (ascii "any") (digits_of handle)
 unfoldable pub filled_in : List ℕ → List ℕ → List ℕ
 filled_in [] vs = []
 filled_in (c ∷ cs) [] = c ∷ filled_in cs []
-filled_in (c ∷ cs) (v ∷ vs) = cond (is_mark c) (shown_as c v) (c ∷ []) ++ filled_in cs (cond (is_mark c) vs (v ∷ vs))
+filled_in (c ∷ cs) (v ∷ vs) = cond (is_ascii_uppercase c) (shown_as c v) (c ∷ []) ++ filled_in cs (cond (is_ascii_uppercase c) vs (v ∷ vs))

@@ -1,7 +1,8 @@
 -- The text form of records, one a line (docs/TEXT.md): the one table of the kinds' names, of their fields' names and of how a value is written.
 use Rattle.std.specs.Prelude.{ℕ, cond, List, [], ◌∷◌, ◌++◌, eqb}
 use Prim.Native.String.{String}
-use Rattle.record.specs.Meaning.{Kind, port, filter, gate, gate_entry, meter, group, scheduler, start, arrival, clear}
+use Rattle.record.specs.declared.Kind.{Kind}
+use Rattle.record.specs.declared.Kind.TheVariants.{Port as port, Filter as filter, Gate as gate, GateEntry as gate_entry, Meter as meter, Group as group, Scheduler as scheduler, Start as start, Arrival as arrival, Clear as clear}
 use Rattle.record.specs.declared.Record.{Record}
 use Rattle.record.specs.declared.Record.TheVariants.{Port, Filter, Gate, GateEntry, Meter, Group, Scheduler, Start, Arrival, Clear}
 use Rattle.text.specs.Meaning.{ascii, digits_of}

@@ -119,18 +119,18 @@ fn put_handle<const N: usize>(page: &mut Page<N>, any: u8, handle: u32)
 fn put_form<const N: usize>(page: &mut Page<N>, form: &[u8], values: &[u64])
     ensures { page.new ≡ written page.old (filled_in form.now values.now) }
 {
-    let mut left = values;
+    let mut left = values.iter();
     for c in form {
-        if c.is_ascii_uppercase() && let Some((value, rest)) = left.split_first() {
-            put_value(page, *c, *value);
-            left = rest;
-        } else {
-            page.put_octet(*c);
+        let value = if c.is_ascii_uppercase() { left.next() } else { None };
+        match value {
+            Some(value) => put_value(page, *c, *value),
+            None => page.put_octet(*c),
         }
     }
 }
 
 // A value at its mark: for A 8 is `any`, for U 8 is `null`, for Z 0 is `none`, for L 255, for M 2^32 - 1; for N every value is a number.
+#[tactic(auto, unfolding(crate::specs::Form::shown_as))]
 fn put_value<const N: usize>(page: &mut Page<N>, mark: u8, value: u64)
     ensures { page.new ≡ written page.old (shown_as mark value) }
 {

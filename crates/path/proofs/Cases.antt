@@ -1,22 +1,20 @@
 -- The cases of each step of a frame's path, each from what tells it from the others.
-use Rattle.std.specs.Prelude.{◌≡◌, ℕ, ◌<◌, ◌≤◌, Bool, true, false, not, ◌&&◌, ◌||◌, List, Option, Some, None, ◌==◌, ◌≢◌, nat_lt}
-use Rattle.std.proofs.Common.{ap, ◌∙◌, lt-ltb, le-ltb, eq-eqb, ne_eqb}
+use Rattle.std.specs.Prelude.{◌≡◌, ℕ, ◌<◌, ◌≤◌, Bool, true, false, not, ◌&&◌, ◌||◌, List, Some, None, ◌==◌, ◌≢◌, nat_lt}
+use Rattle.std.proofs.Common.{lt-ltb, le-ltb, eq-eqb, ne_eqb}
 use Rattle.gate.specs.declared.Stepped.{Stepped as GateStepped}
 use Rattle.gate.specs.declared.Outcome.{Outcome as GateOutcome}
 use Rattle.meter.specs.declared.Metered.{Metered}
 use Rattle.meter.specs.declared.Outcome.{Outcome as MeterOutcome}
-use Rattle.scheduler.specs.declared.Scheduler.{Scheduler}
 use Rattle.scheduler.specs.declared.Stepped.{Stepped}
 use Rattle.scheduler.specs.declared.Outcome.{Outcome as SchedulerOutcome}
-use Rattle.scheduler.specs.declared.Outcome.TheVariants.{Admitted}
 use Rattle.record.specs.declared.ArrivalRecord.{ArrivalRecord}
 use Rattle.record.specs.declared.Refusal.TheVariants.{TimeGoesBack}
 use Rattle.bank.specs.declared.Counters.{Counters}
-use Rattle.bank.specs.Meaning.{Rows, component, with_clock, counters, with_gate_state, with_meter_state, scheduler_group, with_scheduler_state, with_group_last}
+use Rattle.bank.specs.Meaning.{Rows, component, with_clock, counters, with_gate_state, with_meter_state, scheduler_group}
 use Rattle.filter.specs.declared.Filter.{Filter}
 use Rattle.filter.specs.Meaning.{Found}
 use Rattle.verdict.specs.declared.Drop.TheVariants as drop
-use Rattle.verdict.specs.Meaning.{Verdict, Refused, Dropped, told}
+use Rattle.verdict.specs.Meaning.{Refused, Dropped, told}
 use Rattle.path.specs.Meaning.{pass_of, sdu_failed, sdu_passed, offered_of, scheduled_by, scheduled_of, coloured_of, metered_by, metered_of, reached_of, gated_by, gated_of, sdu_filtered_of, arrival_of}
 
 module _ (s : Rows) (a : ArrivalRecord) (row : Filter) (priority mark : ℕ) where

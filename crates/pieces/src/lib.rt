@@ -66,7 +66,7 @@ pub fn complain<W: Write>(errors: &mut W, program: &[u8], failure: Failure) -> R
     write(errors, page.text())
 }
 
-#[tactic(auto, using(text::proofs::Laws::written_append), unfolding(crate::specs::Meaning::complaint_of))]
+#[tactic(auto, using(text::proofs::Laws::puts), unfolding(crate::specs::Meaning::complaint_of))]
 fn complaint<const N: usize>(page: &mut Page<N>, program: &[u8], failure: Failure)
     ensures { page.new ≡ written page.old (complaint_of program.now failure) }
 {

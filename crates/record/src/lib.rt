@@ -8,6 +8,8 @@ ghost use Rattle.record.specs.Steps.{reading_of};
 
 use bucket::{Octets, Rate};
 
+// Kept: the fields are the numbers of the record, as the table `kind_row` and the theorems on flags (`oversize_stands_run` and its like) have them.
+
 // 01, kind 1. The overhead is in octets.
 #[derive(Clone, Copy)]
 pub struct PortRecord {
@@ -235,6 +237,7 @@ pub fn read(input: &[u8], started: bool) -> Result<(Record, usize), Refusal>
 
 // The body of the record at the front of the input that uses so many octets, as the very part of the input that follows its kind. Every
 // refusal, by the reader or later by the stage, uses 0 octets, so that its body is the empty part at the input's front.
+// Kept: the library's `get` says which octets a part has, and not that it is the very part of the input.
 // Ruled out: a body that begins with the kind; a body that is shown though the record was refused.
 #[tactic(auto, unfolding(crate::specs::Meaning::body_of, crate::specs::Meaning::body_in))]
 pub fn body(input: &[u8], used: usize) -> &[u8]
@@ -473,6 +476,7 @@ impl ClearRecord {
 }
 
 // Numbers of two, four and eight octets, the first the most significant.
+// Kept: one function over a const parameter needs a trait for the three `from_be_bytes`, which is longer than these are.
 fn read_u16(s: &[u8], at: usize) -> u16
     requires { at + 2 ≤ length s.now }
     ensures { result ≡ number_at s.now at 2 }
@@ -491,5 +495,14 @@ fn read_u64(s: &[u8], at: usize) -> u64
     requires { at + 8 ≤ length s.now }
     ensures { result ≡ number_at s.now at 8 }
 {
-    u64::from_be_bytes([s[at], s[at + 1], s[at + 2], s[at + 3], s[at + 4], s[at + 5], s[at + 6], s[at + 7]])
+    u64::from_be_bytes([
+        s[at],
+        s[at + 1],
+        s[at + 2],
+        s[at + 3],
+        s[at + 4],
+        s[at + 5],
+        s[at + 6],
+        s[at + 7],
+    ])
 }

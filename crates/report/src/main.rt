@@ -2,9 +2,13 @@
 
 #![tactic(auto)]
 
+use bank::Bank;
+
 fn main(rt: HostRuntime) {
-    let mut bank = [0u64; bank::WORDS];
-    let mut lists = [0u8; sizes::LISTS];
+    let mut bank = Bank {
+        words: [0; bank::WORDS],
+    };
+    let mut lists = [0; sizes::LISTS];
     let mut output = rt.stdout();
     let drained = stream::drain(&mut rt.stdin(), &mut output, &mut bank, &mut lists, true);
     let reported = stream::report(&mut output, &bank, drained);

@@ -3,7 +3,7 @@ use Rattle.std.specs.Prelude.{ℕ, zero, suc, ◌+◌, ◌-◌, ◌≤◌, ◌<�
 use Rattle.std.proofs.Math.Bool.{or-false, or_assoc}
 use Rattle.std.specs.List.{list_any, range_with_len}
 use Rattle.std.proofs.Common.{sym, add-zero, zero-add, arith, ⊎_elim, ap, ◌∙◌, not-suc-le-zero, eq-or-lt_of_le, le_of_suc-le-suc, add-one}
-use borrow.Author.Tests.{lt-ltb, le-ltb, ne_eqb, eqb-true}
+use borrow.Author.Tests.{lt-ltb, le-ltb, eqb-true}
 use Rattle.sizes.specs.Meaning.{entry_count, entry_octets}
 use Rattle.logic.specs.Laws.{neither_left, neither_right, if_by}
 use Rattle.record.specs.declared.GateEntryRecord.{GateEntryRecord}

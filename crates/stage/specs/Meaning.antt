@@ -4,8 +4,6 @@
 use Rattle.std.specs.Prelude.{ℕ, Bool, cond, List, eqb, length, set, Ok, Err}
 use Rattle.sizes.specs.Meaning.{filter_count}
 use Rattle.record.specs.declared.Record.{Record}
-use Rattle.record.specs.declared.FilterRecord.{FilterRecord}
-use Rattle.record.specs.declared.ArrivalRecord.{ArrivalRecord}
 use Rattle.record.specs.declared.Refusal.{Refusal}
 use Rattle.record.specs.declared.Refusal.TheVariants.{TableLength, SetUpAlready}
 use Rattle.record.specs.Meaning.{Reading, body_in, read_of}
@@ -13,7 +11,7 @@ use Rattle.bank.specs.Meaning.{Rows, is_set, component}
 use Rattle.filter.specs.declared.Filter.{Filter}
 use Rattle.filter.specs.declared.Key.{Key}
 use Rattle.filter.specs.Meaning.{Asks, Fits, Missing, ExceedsBurst, of_every_place, Found, is_filter_of, row_of, search_of}
-pub use Rattle.filter.specs.Meaning.{no_key}
+pub use Rattle.filter.specs.Meaning.{filter_of, key_of, no_key}
 use Rattle.verdict.specs.Meaning.{Verdict, Refused, Taken, Passed, Dropped, Answer, Told}
 use Rattle.path.specs.Meaning.{arrival_of}
 use Rattle.setup.specs.Meaning.{Listed, set_port_of, set_gate_of, add_entry_of, set_meter_of, set_group_of, set_scheduler_of, start_of, clear_of}
@@ -55,14 +53,6 @@ abbrev pub lists_took : Bridge → ℕ → Listed → Took
 lists_took b used t = took b.table t.bank t.lists (answered used t.verdict)
 
 -- ---- the filter table. Place n is filter n's
-
--- the row that a filter's record writes
-abbrev pub filter_of : FilterRecord → Filter
-filter_of r = record { handle = r.handle; max_sdu = r.max_sdu; used = 1; any_handle = r.any_handle; priority = r.priority; gate = r.gate; oversize_block = r.oversize_block; meter = r.meter; scheduler = r.scheduler }
-
--- what a frame is matched by
-abbrev pub key_of : ArrivalRecord → Key
-key_of a = record { handle = a.handle; priority = a.priority }
 
 -- the first row of the table of which something holds
 abbrev pub first_row : Bridge → Asks → Key → Found

@@ -5,11 +5,11 @@
 ghost use Rattle.std.specs.Prelude.{◌≡◌};
 ghost use Rattle.bank.specs.Meaning.{rows_of};
 ghost use Rattle.verdict.specs.Meaning.{answer_of};
-ghost use Rattle.stage.specs.Meaning.{bridge, took, filter_of, key_of, take_of};
+ghost use Rattle.stage.specs.Meaning.{bridge, took, take_of};
 
 use bank::{Bank, Lists};
 use filter::{Filter, Key};
-use record::{ArrivalRecord, FilterRecord, Record, Refusal};
+use record::{Record, Refusal};
 use verdict::{Outcome, Taken};
 
 // One record of `input`.
@@ -26,8 +26,8 @@ pub fn take(
     if table.len() != sizes::FILTERS {
         return Err(Refusal::TableLength);
     }
-    let component = bank.component_at();
-    let (record, used) = record::read(input, component.classes != 0)?;
+    let started = bank.component_at().classes != 0;
+    let (record, used) = record::read(input, started)?;
     let mut outcome = Outcome::Done;
     match record {
         Record::Port(r) => setup::set_port(bank, r)?,
@@ -36,7 +36,7 @@ pub fn take(
             if filter::row_at(table, i).is_filter() {
                 return Err(Refusal::SetUpAlready);
             }
-            filter::put_row(table, i, row(r));
+            filter::put_row(table, i, Filter::from(r));
         }
         Record::Gate(r) => setup::set_gate(bank, r)?,
         Record::GateEntry(r) => setup::add_entry(bank, lists, record::body(input, used), r)?,
@@ -49,7 +49,7 @@ pub fn take(
             setup::start(bank, r, missing, exceeding)?
         }
         Record::Arrival(a) => {
-            let found = filter::matching(table, bank, key(a));
+            let found = filter::matching(table, bank, Key::from(a));
             outcome = path::arrive(bank, lists, a, found)?;
         }
         Record::Clear(r) => {
@@ -58,31 +58,4 @@ pub fn take(
         }
     }
     Ok(Taken { used, outcome })
-}
-
-// The row that a filter's record writes.
-fn row(r: FilterRecord) -> Filter
-    ensures { result ≡ filter_of r }
-{
-    Filter {
-        handle: r.handle,
-        max_sdu: r.max_sdu,
-        used: 1,
-        any_handle: r.any_handle,
-        priority: r.priority,
-        gate: r.gate,
-        oversize_block: r.oversize_block,
-        meter: r.meter,
-        scheduler: r.scheduler,
-    }
-}
-
-// What a frame is matched by.
-fn key(a: ArrivalRecord) -> Key
-    ensures { result ≡ key_of a }
-{
-    Key {
-        handle: a.handle,
-        priority: a.priority,
-    }
 }

@@ -2,12 +2,12 @@
 // A record that the end of a piece cuts waits at the front of the buffer for its rest.
 #![tactic(auto)]
 
-ghost use Rattle.std.specs.Prelude.{◌≡◌, ◌→◌, None, Ok};
+ghost use Rattle.std.specs.Prelude.{◌≡◌};
 ghost use Rattle.bank.specs.Meaning.{rows_of};
-ghost use Rattle.stage.specs.Meaning.{Bridge, bridge};
+ghost use Rattle.stage.specs.Meaning.{Bridge};
 ghost use Rattle.text.specs.Meaning.{written};
-ghost use Rattle.stream.specs.Meaning.{Drains, Reported, empty_table, ended_of, last_line_of};
-ghost use Rattle.stream.specs.Stands.{Stands};
+ghost use Rattle.stream.specs.Meaning.{Drains, Reported, last_line_of};
+ghost use Rattle.stream.specs.Stands.{Stands, ended_by};
 
 use bank::{Bank, Lists};
 use filter::Filter;
@@ -98,6 +98,7 @@ fn last_line<const N: usize>(page: &mut Page<N>, d: Drained)
 
 // A body cut short, where no octet is left, is no refusal but the end.
 fn ended(refusal: Option<Refusal>, kept: usize) -> Option<Refusal>
+    ensures { result ≡ ended_by refusal kept }
 {
     match refusal {
         Some(Refusal::CutShort) if kept == 0 => None,
@@ -106,6 +107,7 @@ fn ended(refusal: Option<Refusal>, kept: usize) -> Option<Refusal>
 }
 
 // A stream on its way.
+#[derive(Drop)]
 struct Stream {
     table: [Filter; sizes::FILTERS],
     buffer: [u8; 65536],

@@ -9,7 +9,7 @@ use Rattle.verdict.specs.declared.Drop.{Drop}
 use Rattle.verdict.specs.declared.Drop.TheVariants.{OversizeBlocked, Oversize, GateBlocked, GateClosed, GateOctets, Yellow, Red, Residence}
 use Rattle.verdict.specs.declared.Pass.{Pass}
 use Rattle.verdict.specs.Meaning.{drop_number_of}
-use Rattle.text.specs.Meaning.{Page, page, put_of, written, digits_of, ascii, time_of, pass_line_of, drop_line_of, end_line_of, refused_line_of, line_room}
+use Rattle.text.specs.Meaning.{Page, page, put_of, written, digits_of, time_of, pass_line_of, drop_line_of, end_line_of, refused_line_of, line_room}
 use Rattle.text.proofs.Laws.{put_in, digits_one, digits_more}
 
 -- ---- a line that has places enough is put whole

@@ -1,4 +1,4 @@
-// What the programs print, put octet by octet into a page of fixed size (01, Program `ingress`).
+// What the programs print, put octet by octet on a page of fixed size (01, Program `ingress`).
 // Octets for which the page has no place are left out, so that nothing here asks anything of the page.
 #![tactic(auto)]
 
@@ -92,6 +92,7 @@ impl<const N: usize> Page<N> {
 
 }
 
+// Kept: `write!` to a page, as an `fmt::Write`, says nothing of the page where it answers an Err, and no put can fail: tried, `returns` of put_end stays open.
 #[tactic(auto, using(crate::proofs::Laws::puts), unfolding(crate::specs::Meaning::written, crate::specs::Meaning::pass_line_of, crate::specs::Meaning::drop_line_of, crate::specs::Meaning::end_line_of, crate::specs::Meaning::refused_line_of, crate::specs::Meaning::filter_items_of, crate::specs::Meaning::gate_items_of))]
 impl<const N: usize> Page<N> {
     // Ruled out: the first one over and over; all at one place.
@@ -158,7 +159,7 @@ impl<const N: usize> Page<N> {
     {
         self.put_number(arrival);
         self.put_octets(b" drop ");
-        self.put_number(u64::from(u8::from(d)));
+        self.put_number(u8::from(d) as u64);
         self.put_octet(b'\n');
     }
 
@@ -177,7 +178,7 @@ impl<const N: usize> Page<N> {
         ensures { self.new ≡ written self.old (refused_line_of (refusal_number_of refusal) offset) }
     {
         self.put_octets(b"refused ");
-        self.put_number(u64::from(u8::from(refusal)));
+        self.put_number(u8::from(refusal) as u64);
         self.put_octets(b" at ");
         self.put_number(offset);
         self.put_octet(b'\n');

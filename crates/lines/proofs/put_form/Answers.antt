@@ -1,27 +1,36 @@
--- `lines::put_form` meets its contract. Invariant: what is left of the form, filled in with the values that are left and put on the page of now,
--- is all of it put on the first page. Measure: the octets of the form left. Assumes nothing.
-use mathlib.Core.Path.{sym, ◌∙◌}
-use native.Mathlib.Omega.{arith}
-use borrow.Author.Rules.{rules}
-use lib.ListN.{drop}
-use Rattle.text.specs.Meaning.{page}
-use Rattle.lines.proofs.Form.{next_mark, next_text, filled_over}
+-- `lines::put_form` meets its contract. Assumes nothing.
+use Rattle.std.proofs.Common.{sym, ◌∙◌}
+use Rattle.lines.proofs.Form.{put_mark, put_text, put_rest, put_none}
 use Rattle.lines.proofs.put_form.Goals as goal
+use Rattle.lines.proofs.put_form.Goals.{then-is_ascii_uppercase, else-is_ascii_uppercase, in-Some, in-None}
 
-pub loop-i-preserved-then-c-k : goal.loop-i-preserved-then-c-k
-loop-i-preserved-then-c-k c =
-    let v = c.put_value-next in
-    let a = c.args in
-    next_mark (page c.loop-i.out c.loop-i.next) _ a.form.now a.values.now c.loop-i.i c.loop-i.k (omega arith) (search rules) v.ensures ∙ c.loop-i.invariant
-
-pub loop-i-preserved : goal.loop-i-preserved
-loop-i-preserved c =
-    let v = c.put_octet-next in
-    let a = c.args in
-    next_text (page c.loop-i.out c.loop-i.next) _ a.form.now a.values.now c.loop-i.i c.loop-i.k (omega arith) (search rules) v.ensures ∙ c.loop-i.invariant
+pub loop-c-preserved : goal.loop-c-preserved
+loop-c-preserved g c =
+    let page = c.loop-c.page in
+    let form = c.args.form.now in
+    let i = c.loop-c.c-index in
+    let l = c.loop-c-test.true in
+    let left = c.loop-c.left.rest.now in
+    elim c.if-is_ascii_uppercase.branch [
+      then-is_ascii_uppercase w ↦
+      elim c.match-value.branch [
+        in-Some v ↦
+        let s = rw (sym w.value-is ∙ v.in-Some.is) at w.next-value.ensures.steps in
+        let e = put_mark page form i l v.in-Some.value.now w.next-value.new.self.rest.now (sym c.is_ascii_uppercase.ensures.value ∙ w.if-is_ascii_uppercase.true) in
+        cc
+        | in-None v ↦
+        let s = rw (sym w.value-is ∙ v.in-None.is) at w.next-value.ensures.steps in
+        let e = put_rest page form i l left s.0 in
+        cc
+      ]
+      | else-is_ascii_uppercase w ↦
+      elim c.match-value.branch [
+        in-Some v ↦ absurd cc
+        | in-None v ↦
+        let e = put_text page form i l left (sym c.is_ascii_uppercase.ensures.value ∙ w.if-is_ascii_uppercase.false) in
+        cc
+      ]
+    ]
 
 pub returns : goal.returns
-returns c =
-    let l = c.loop-i in
-    let a = c.args in
-    sym (filled_over (page l.out l.next) a.form.now (drop l.k a.values.now) l.i (omega arith)) ∙ l.invariant
+returns g c = sym (put_none c.loop-c.page c.args.form.now c.loop-c.left.rest.now c.loop-c.c-index c.loop-c-test.false) ∙ c.loop-c.invariant
