@@ -115,12 +115,12 @@ pub one_page : (meaning : Page) (out out' : List ℕ) (r r' : ℕ) → page out 
 one_page meaning out out' r r' e e' =
     (one_value meaning.octets out out' (ap (λ (p : Page). p.octets) e) (ap (λ (p : Page). p.octets) e'), one_value meaning.filled r r' (ap (λ (p : Page). p.filled) e) (ap (λ (p : Page). p.filled) e'))
 
--- `ran .. ≡ run_of ..`: a piece of input
-pub one_run : (meaning : Ran) (table table' : List Filter) (w w' : Bank) (lists lists' out out' : List ℕ) (p p' : Progress) → length w.words ≡ length w'.words
-    → ran table (rows_of w) lists out p ≡ meaning → ran table' (rows_of w') lists' out' p' ≡ meaning → ((table ≡ table') × ((w ≡ w') × (lists ≡ lists'))) × ((out ≡ out') × (p ≡ p'))
-one_run meaning table table' w w' lists lists' out out' p p' same e e' = (
+-- `ran .. ≡ piece_run_of ..`: a piece of input
+pub one_run : (meaning : Ran) (table table' : List Filter) (w w' : Bank) (lists lists' : List ℕ) (q q' : Page) (p p' : Progress) → length w.words ≡ length w'.words
+    → ran table (rows_of w) lists q p ≡ meaning → ran table' (rows_of w') lists' q' p' ≡ meaning → ((table ≡ table') × ((w ≡ w') × (lists ≡ lists'))) × ((q ≡ q') × (p ≡ p'))
+one_run meaning table table' w w' lists lists' q q' p p' same e e' = (
   one_bridge meaning.after table table' w w' lists lists' same (ap (λ (o : Ran). o.after) e) (ap (λ (o : Ran). o.after) e'),
-  (one_value meaning.out out out' (ap (λ (o : Ran). o.out) e) (ap (λ (o : Ran). o.out) e'), one_value meaning.progress p p' (ap (λ (o : Ran). o.progress) e) (ap (λ (o : Ran). o.progress) e')),
+  (one_value meaning.page q q' (ap (λ (o : Ran). o.page) e) (ap (λ (o : Ran). o.page) e'), one_value meaning.progress p p' (ap (λ (o : Ran). o.progress) e) (ap (λ (o : Ran). o.progress) e')),
 )
 
 -- ---- every history. Calls one after another, each of which meets the contract on the bridge that the one before it left

@@ -1,17 +1,14 @@
 -- What `run::run` leaves and answers over a piece (`piece_run_of`) is what `Front` and `Input` say of its octets, as far as the room goes: the bridge, the
 -- octets taken, the records and arrivals counted, the refusal, and the text, which is the lines of the answers in order.
 use Prim.Native.Nat.{ℕ, zero, suc, ◌+◌, ◌-◌, ◌%◌, ◌^◌, ◌<◌, ◌≤◌}
-use Rattle.std.specs.Prelude.{Bool, cond, ◌≡◌, length, drop}
+use Rattle.std.specs.Prelude.{Bool, cond, Some, None, ◌≡◌, ◌≢◌, length, drop}
 use Rattle.std.proofs.Math.Bool.{true, false}
 use mathlib.Core.List.{List, [], ◌∷◌, ◌++◌, append-nil, append_assoc}
 use Rattle.std.proofs.Math.Path.{refl, sym, ap, subst}
 use Rattle.std.proofs.Common.{◌∙◌, arith, length-drop, length-append, drop_of_length-le, drop-drop}
 use borrow.Author.Tests.{leb-true}
 use Rattle.record.specs.declared.Refusal.{Refusal}
-use Rattle.record.specs.Meaning.{refusal_number_of}
-use Rattle.verdict.specs.Meaning.{Answer}
-use Rattle.verdict.specs.Meaning.{Verdict}
-use Rattle.verdict.specs.Meaning.{Refused, Taken, Passed, Dropped}
+use Rattle.verdict.specs.Meaning.{Verdict, Refused, Taken, Passed, Dropped, Answer}
 use Rattle.stage.specs.Meaning.{Bridge, Took, take_of}
 use Rattle.text.specs.Meaning.{line_room, Page, page, written, pass_line_of, drop_line_of}
 use Rattle.text.proofs.Laws.{written_append, written_none}
@@ -64,40 +61,40 @@ told_nothing true n = refl
 told_nothing false n = refl
 
 -- the page after a record that is taken, and how far the run is then
-abbrev page_after : List ℕ → Progress → Verdict → Page
-page_after out p v = written (page out p.filled) (cond p.quiet [] (verdict_line_of p.arrivals v))
+abbrev page_after : Page → Progress → Verdict → Page
+page_after w p v = written w (cond p.quiet [] (verdict_line_of p.arrivals v))
 
-abbrev gone_on : List ℕ → Progress → ℕ → Verdict → Printed
-gone_on out p used v = moved_of out p used ((p.arrivals + arrival_in v) % 2 ^ 64) (page_after out p v)
+abbrev gone_on : Page → Progress → ℕ → Verdict → Printed
+gone_on w p used v = moved_of p used ((p.arrivals + arrival_in v) % 2 ^ 64) (page_after w p v)
 
-printed_taken : (out : List ℕ) (p : Progress) (used : ℕ) (v : Verdict) → p.arrivals < 2 ^ 64 → NoRefusal v → printed_by out p used v ≡ gone_on out p used v
+printed_taken : (w : Page) (p : Progress) (used : ℕ) (v : Verdict) → p.arrivals < 2 ^ 64 → NoRefusal v → printed_by w p used v ≡ gone_on w p used v
 unfolding printed_by
-printed_taken out p used (Refused r) l h = absurd (h r refl)
-printed_taken out p used Taken l h =
-    ap (λ (n : ℕ). moved_of out p used n (page out p.filled)) (omega (arith, l)) ∙ ap (moved_of out p used ((p.arrivals + 0) % 2 ^ 64)) (silent p.quiet)
+printed_taken w p used (Refused r) l h = absurd (h r refl)
+printed_taken w p used Taken l h =
+    ap (λ (n : ℕ). moved_of p used n w) (omega (arith, l)) ∙ ap (moved_of p used ((p.arrivals + 0) % 2 ^ 64)) (silent p.quiet)
   where
-    silent : (z : Bool) → page out p.filled ≡ written (page out p.filled) (cond z [] [])
-    silent true = sym (written_none (page out p.filled))
-    silent false = sym (written_none (page out p.filled))
-printed_taken out p used (Passed v) l h = ap (moved_of out p used ((p.arrivals + 1) % 2 ^ 64)) (said p.quiet)
+    silent : (z : Bool) → w ≡ written w (cond z [] [])
+    silent true = sym (written_none w)
+    silent false = sym (written_none w)
+printed_taken w p used (Passed v) l h = ap (moved_of p used ((p.arrivals + 1) % 2 ^ 64)) (said p.quiet)
   where
-    said : (z : Bool) → cond z (page out p.filled) (written (page out p.filled) (pass_line_of ((p.arrivals + 1) % 2 ^ 64) v)) ≡ written (page out p.filled) (cond z [] (verdict_line_of p.arrivals (Passed v)))
-    said true = sym (written_none (page out p.filled))
+    said : (z : Bool) → cond z w (written w (pass_line_of ((p.arrivals + 1) % 2 ^ 64) v)) ≡ written w (cond z [] (verdict_line_of p.arrivals (Passed v)))
+    said true = sym (written_none w)
     said false = refl
-printed_taken out p used (Dropped d) l h = ap (moved_of out p used ((p.arrivals + 1) % 2 ^ 64)) (said p.quiet)
+printed_taken w p used (Dropped d) l h = ap (moved_of p used ((p.arrivals + 1) % 2 ^ 64)) (said p.quiet)
   where
-    said : (z : Bool) → cond z (page out p.filled) (written (page out p.filled) (drop_line_of ((p.arrivals + 1) % 2 ^ 64) d)) ≡ written (page out p.filled) (cond z [] (verdict_line_of p.arrivals (Dropped d)))
-    said true = sym (written_none (page out p.filled))
+    said : (z : Bool) → cond z w (written w (drop_line_of ((p.arrivals + 1) % 2 ^ 64) d)) ≡ written w (cond z [] (verdict_line_of p.arrivals (Dropped d)))
+    said true = sym (written_none w)
     said false = refl
 
 -- ---- a run, turn by turn
 
 module _ (input : List ℕ) (small : length input < 2 ^ 64) where
   -- no record is taken
-  unfoldable stays : (b : Bridge) (out : List ℕ) (p q : Progress) → Going input p → q.at ≡ p.at → q.filled ≡ p.filled → q.records ≡ p.records → q.arrivals ≡ p.arrivals → q.quiet ≡ p.quiet
-      → Stops b (drop q.at input) q → RunIs input b out p (ran_to b (printed out q))
+  unfoldable stays : (b : Bridge) (w : Page) (p q : Progress) → Going input p → q.at ≡ p.at → q.records ≡ p.records → q.arrivals ≡ p.arrivals → q.quiet ≡ p.quiet
+      → Stops b (drop q.at input) q → RunIs input b w p (ran_to b (printed w q))
   unfolding lines_of
-  stays b out p q g at filled records arrivals quiet stop = record {
+  stays b w p q g at records arrivals quiet stop = record {
     answers = [];
     front = subst (λ (k : ℕ). Front b (drop p.at input) [] b (drop k input)) (sym at) begins;
     at = omega (arith, at);
@@ -105,23 +102,23 @@ module _ (input : List ℕ) (small : length input < 2 ^ 64) where
     records = omega (arith, records, g.records);
     arrivals = omega (arith, arrivals, g.arrivals);
     quiet = quiet;
-    text = ap (page out) filled ∙ sym (written_none (page out p.filled)) ∙ ap (written (page out p.filled)) (nothing p.quiet);
+    text = sym (written_none w) ∙ ap (written w) (nothing p.quiet);
     stops = stop;
-    whole = λ room brief. omega (arith, told_nothing p.quiet p.arrivals, leb-true (p.filled + line_room) (length out) room);
+    whole = λ room brief. omega (arith, told_nothing p.quiet p.arrivals, leb-true (w.filled + line_room) (length w.octets) room);
   }
     where
       nothing : (z : Bool) → [] ≡ told_of z p.arrivals []
       nothing true = refl
       nothing false = refl
 
-  module _ (b : Bridge) (out : List ℕ) (p : Progress) (g : Going input p) where
+  module _ (b : Bridge) (w : Page) (p : Progress) (g : Going input p) where
     abbrev rest : List ℕ
     rest = drop p.at input
 
     -- a record is taken, and the run goes on as it does from there
     module _ (o : Took) (e : take_of b rest ≡ o) (h : NoRefusal o.answer.verdict) where
       abbrev next : Printed
-      next = gone_on out p o.answer.used o.answer.verdict
+      next = gone_on w p o.answer.used o.answer.verdict
 
       abbrev line : List ℕ
       line = cond p.quiet [] (verdict_line_of p.arrivals o.answer.verdict)
@@ -141,18 +138,18 @@ module _ (input : List ℕ) (small : length input < 2 ^ 64) where
       fewer n l = let u = uses_some b rest o e h in omega (arith, ahead, u.0, l)
 
       -- its line finds its place where there is room for one
-      line_placed : room_of (length out) p.filled ≡ true → Brief o.answer.verdict → (next.progress.filled ≡ p.filled + length line) × (p.filled + length line ≤ length out)
+      line_placed : room_of w ≡ true → Brief o.answer.verdict → (next.page.filled ≡ w.filled + length line) × (w.filled + length line ≤ length w.octets)
       line_placed room brief =
           let short : length line ≤ line_room = quiet_brief p.quiet in
-          (ap (λ (w : Page). w.filled) (room_whole out p.filled line short room), omega (arith, short, leb-true (p.filled + line_room) (length out) room))
+          (ap (λ (x : Page). x.filled) (room_whole w.octets w.filled line short room), omega (arith, short, leb-true (w.filled + line_room) (length w.octets) room))
         where
           quiet_brief : (z : Bool) → length (cond z [] (verdict_line_of p.arrivals o.answer.verdict)) ≤ line_room
           quiet_brief true = omega arith
           quiet_brief false = brief p.arrivals
 
-      prepend : (r : Ran) (more : RunIs input o.after next.out next.progress r)
-          → (room_of (length out) p.filled ≡ true → Brief o.answer.verdict → EachBrief more.answers → next.progress.filled + length (told_of p.quiet next.progress.arrivals more.answers) ≤ length out)
-          → RunIs input b out p r
+      prepend : (r : Ran) (more : RunIs input o.after next.page next.progress r)
+          → (room_of w ≡ true → Brief o.answer.verdict → EachBrief more.answers → next.page.filled + length (told_of p.quiet next.progress.arrivals more.answers) ≤ length w.octets)
+          → RunIs input b w p r
       prepend r more placed = record {
         answers = o.answer ∷ more.answers;
         front =
@@ -164,26 +161,26 @@ module _ (input : List ℕ) (small : length input < 2 ^ 64) where
         records = omega (arith, more.records);
         arrivals = omega (arith, more.arrivals);
         quiet = more.quiet;
-        text = more.text ∙ told_on p.quiet p.arrivals next.progress.arrivals (page out p.filled) o.answer more.answers refl;
+        text = more.text ∙ told_on p.quiet p.arrivals next.progress.arrivals w o.answer more.answers refl;
         stops = more.stops;
         whole = λ room brief. omega (arith, told_length p.quiet p.arrivals next.progress.arrivals o.answer more.answers refl, (line_placed room brief.0).0, placed room brief.0 brief.1);
       }
 
     -- the turn of a run: what is told of the call, and the turns after it
     abbrev turned : ℕ → Printed → Ran
-    turned n d = cond d.progress.more (piece_run_of n input (take_of b rest).after d.out d.progress) (ran_to (take_of b rest).after d)
+    turned n d = cond d.progress.more (piece_run_of n input (take_of b rest).after d.page d.progress) (ran_to (take_of b rest).after d)
 
-    refused_turn : (n : ℕ) (why : Refusal) → (take_of b rest).answer.verdict ≡ Refused why → RunIs input b out p (turned n (printed_of out p (take_of b rest).answer))
+    refused_turn : (n : ℕ) (why : Refusal) → (take_of b rest).answer.verdict ≡ Refused why → RunIs input b w p (turned n (printed_of w p (take_of b rest).answer))
     unfolding printed_by
     refused_turn n why e =
-        let same : turned n (printed_of out p (take_of b rest).answer) ≡ ran_to b (printed out (stopped_of p (refusal_number_of why)))
-        = ap (λ (v : Verdict). turned n (printed_by out p (take_of b rest).answer.used v)) e ∙ ap (λ (x : Bridge). ran_to x (printed out (stopped_of p (refusal_number_of why)))) (refused_changes_nothing b rest why e).0 in
-        subst (RunIs input b out p) (sym same) (stays b out p (stopped_of p (refusal_number_of why)) g refl refl refl refl refl (refused why e refl))
+        let same : turned n (printed_of w p (take_of b rest).answer) ≡ ran_to b (printed w (stopped_of p why))
+        = ap (λ (v : Verdict). turned n (printed_by w p (take_of b rest).answer.used v)) e ∙ ap (λ (x : Bridge). ran_to x (printed w (stopped_of p why))) (refused_changes_nothing b rest why e).0 in
+        subst (RunIs input b w p) (sym same) (stays b w p (stopped_of p why) g refl refl refl refl (refused why e refl))
 
-    taken_turn : (n : ℕ) (h : NoRefusal (take_of b rest).answer.verdict) → RunIs input (take_of b rest).after (next (take_of b rest) refl h).out (next (take_of b rest) refl h).progress (piece_run_of n input (take_of b rest).after (next (take_of b rest) refl h).out (next (take_of b rest) refl h).progress)
-        → RunIs input b out p (turned n (printed_of out p (take_of b rest).answer))
+    taken_turn : (n : ℕ) (h : NoRefusal (take_of b rest).answer.verdict) → RunIs input (take_of b rest).after (next (take_of b rest) refl h).page (next (take_of b rest) refl h).progress (piece_run_of n input (take_of b rest).after (next (take_of b rest) refl h).page (next (take_of b rest) refl h).progress)
+        → RunIs input b w p (turned n (printed_of w p (take_of b rest).answer))
     unfolding stays
-    taken_turn n h more = subst (λ (d : Printed). RunIs input b out p (turned n d)) (sym (printed_taken out p o.answer.used o.answer.verdict g.arrivals h)) (by_room d.progress.more refl)
+    taken_turn n h more = subst (λ (d : Printed). RunIs input b w p (turned n d)) (sym (printed_taken w p o.answer.used o.answer.verdict g.arrivals h)) (by_room d.progress.more refl)
       where
         o : Took
         o = take_of b rest
@@ -191,33 +188,33 @@ module _ (input : List ℕ) (small : length input < 2 ^ 64) where
         d : Printed
         d = next o refl h
 
-        as_long : length d.out ≡ length out
-        as_long = length_written (line o refl h) (page out p.filled)
+        as_long : length d.page.octets ≡ length w.octets
+        as_long = length_written (line o refl h) w
 
-        by_room : (z : Bool) → d.progress.more ≡ z → RunIs input b out p (cond z (piece_run_of n input o.after d.out d.progress) (ran_to o.after d))
-        by_room true e = prepend o refl h _ more (λ room first briefs. omega (arith, as_long, more.whole (ap (λ (n : ℕ). room_of n d.progress.filled) as_long ∙ e) briefs))
+        by_room : (z : Bool) → d.progress.more ≡ z → RunIs input b w p (cond z (piece_run_of n input o.after d.page d.progress) (ran_to o.after d))
+        by_room true e = prepend o refl h _ more (λ room first briefs. omega (arith, as_long, more.whole e briefs))
         by_room false e =
-            prepend o refl h _ (stays o.after d.out d.progress d.progress (going o refl h) refl refl refl refl refl (full refl e))
+            prepend o refl h _ (stays o.after d.page d.progress d.progress (going o refl h) refl refl refl refl (full refl e))
             (λ room first briefs. let at = line_placed o refl h room first in omega (arith, at.0, at.1, told_nothing p.quiet d.progress.arrivals))
 
   -- as many turns as there are octets left are enough
-  runs_within : (n : ℕ) (b : Bridge) (out : List ℕ) (p : Progress) → Going input p → length input - p.at ≤ n → RunIs input b out p (piece_run_of n input b out p)
+  runs_within : (n : ℕ) (b : Bridge) (w : Page) (p : Progress) → Going input p → length input - p.at ≤ n → RunIs input b w p (piece_run_of n input b w p)
   unfolding piece_run_of
-  runs_within zero b out p g l = stays b out p p g refl refl refl refl refl (used_up g.none (drop_of_length-le input {i = p.at} (omega (arith, l))))
-  runs_within (suc n) b out p g l =
-      by_refusal (take_of b (drop p.at input)).answer.verdict (refused_turn b out p g n)
-      (λ h. taken_turn b out p g n h (runs_within n _ _ _ (going b out p g (take_of b (drop p.at input)) refl h) (fewer b out p g (take_of b (drop p.at input)) refl h n l)))
+  runs_within zero b w p g l = stays b w p p g refl refl refl refl (used_up g.none (drop_of_length-le input {i = p.at} (omega (arith, l))))
+  runs_within (suc n) b w p g l =
+      by_refusal (take_of b (drop p.at input)).answer.verdict (refused_turn b w p g n)
+      (λ h. taken_turn b w p g n h (runs_within n _ _ _ (going b w p g (take_of b (drop p.at input)) refl h) (fewer b w p g (take_of b (drop p.at input)) refl h n l)))
 
   -- a run is a front of its piece
-  pub run_is_front : (b : Bridge) (out : List ℕ) (p : Progress) → Going input p → RunIs input b out p (piece_run_of (length input) input b out p)
-  run_is_front b out p g = runs_within (length input) b out p g (omega arith)
+  pub run_is_front : (b : Bridge) (w : Page) (p : Progress) → Going input p → RunIs input b w p (piece_run_of (length input) input b w p)
+  run_is_front b w p g = runs_within (length input) b w p g (omega arith)
 
 -- where a refusal stops it, it is the whole of its input
-pub stopped_is_input : (b b' : Bridge) (s rest : List ℕ) (answers : List Answer) (p : Progress) → Front b s answers b' rest → Stops b' rest p → 0 < p.refusal
-    → (why : Refusal) × (Input b s answers b' rest why × (p.refusal ≡ refusal_number_of why))
+pub stopped_is_input : (b b' : Bridge) (s rest : List ℕ) (answers : List Answer) (p : Progress) → Front b s answers b' rest → Stops b' rest p → p.refusal ≢ None
+    → (why : Refusal) × (Input b s answers b' rest why × (p.refusal ≡ Some why))
 stopped_is_input b b' s rest answers p front (refused why e n) l = (why, (record { front = front; refused = e }, n))
-stopped_is_input b b' s rest answers p front (full n e) l = absurd (omega (arith, n, l))
-stopped_is_input b b' s rest answers p front (used_up n e) l = absurd (omega (arith, n, l))
+stopped_is_input b b' s rest answers p front (full n e) l = absurd (l n)
+stopped_is_input b b' s rest answers p front (used_up n e) l = absurd (l n)
 
 -- ---- runs one after another are one
 
@@ -231,8 +228,8 @@ counted_on (x ∷ xs) ys = let more = counted_on xs ys in (omega (arith, more.0)
 
 -- however the input is cut into pieces, and wherever a run is stopped for room
 pub runs_are_front : {b : Bridge} {s rest : List ℕ} {p : Progress} {pieces : List (List ℕ)} {last : Ran} → RunsOn b s p pieces last rest → p.records < 2 ^ 64 → p.arrivals < 2 ^ 64 → RunsAre (s ++ joined pieces) b p last rest
-runs_are_front {b = b} {s = s} {p = p} (ends out r small e) l k =
-    let one = subst (RunIs s b out (again_of p)) (sym e) (run_is_front s small b out (again_of p) (again_going s p l k)) in
+runs_are_front {b = b} {s = s} {p = p} (ends octets r small e) l k =
+    let one = subst (RunIs s b (page octets 0) (again_of p)) (sym e) (run_is_front s small b (page octets 0) (again_of p) (again_going s p l k)) in
     record {
       answers = one.answers;
       front = subst (λ (x : List ℕ). Front b x one.answers r.after (drop r.progress.at s)) (sym (append-nil s)) one.front;
@@ -240,8 +237,8 @@ runs_are_front {b = b} {s = s} {p = p} (ends out r small e) l k =
       arrivals = one.arrivals;
       stops = one.stops;
     }
-runs_are_front {b = b} {s = s} {rest = rest} {p = p} {last = last} (goes {pieces = pieces} out r piece small e more) l k =
-    let one = subst (RunIs s b out (again_of p)) (sym e) (run_is_front s small b out (again_of p) (again_going s p l k)) in
+runs_are_front {b = b} {s = s} {rest = rest} {p = p} {last = last} (goes {pieces = pieces} octets r piece small e more) l k =
+    let one = subst (RunIs s b (page octets 0) (again_of p)) (sym e) (run_is_front s small b (page octets 0) (again_of p) (again_going s p l k)) in
     let then = runs_are_front more (omega (arith, one.records)) (omega (arith, one.arrivals)) in
     let counts = counted_on one.answers then.answers in
     record {

@@ -18,7 +18,7 @@ use Rattle.verdict.specs.Meaning.{Refused, Taken, Passed, Dropped}
 use Rattle.verdict.specs.Meaning.{Told}
 use Rattle.setup.specs.Meaning.{Listed, refused_if, set_port_of, set_gate_of, add_entry_of, set_meter_of, set_group_of, set_scheduler_of, start_of, clear_oversize_of, clear_invalid_receive_of, clear_octets_of, clear_red_of, clear_of}
 use Rattle.stage.specs.Meaning.{Bridge, Took, answered, taken_of, take_of}
-use Rattle.text.specs.Meaning.{page}
+use Rattle.text.specs.Meaning.{Page}
 use Rattle.text.proofs.Room.{whole_line, written_whole, pass_room, drop_room}
 use Rattle.run.specs.declared.Progress.{Progress}
 use Rattle.run.specs.Meaning.{room_of, piece_run_of}
@@ -100,8 +100,8 @@ front_brief {b = b} {s = s} reached full (takes o e h more) = (
 )
 
 -- a run from a bridge that calls can reach, whose page has room for a line at first, puts the lines of its answers whole after what was filled
-pub run_prints_whole : (input : List ℕ) (small : length input < 2 ^ 64) (b : Bridge) → Reached b → length b.table ≡ filter_count → (out : List ℕ) (p : Progress) (g : Going input p) → room_of (length out) p.filled ≡ true
-    → (let r = piece_run_of (length input) input b out p in page r.out r.progress.filled ≡ whole_line out p.filled (told_of p.quiet p.arrivals (run_is_front input small b out p g).answers))
-run_prints_whole input small b reached full out p g room =
-    let is = run_is_front input small b out p g in
-    is.text ∙ written_whole out p.filled (told_of p.quiet p.arrivals is.answers) (is.whole room (front_brief reached full is.front))
+pub run_prints_whole : (input : List ℕ) (small : length input < 2 ^ 64) (b : Bridge) → Reached b → length b.table ≡ filter_count → (w : Page) (p : Progress) (g : Going input p) → room_of w ≡ true
+    → (piece_run_of (length input) input b w p).page ≡ whole_line w.octets w.filled (told_of p.quiet p.arrivals (run_is_front input small b w p g).answers)
+run_prints_whole input small b reached full w p g room =
+    let is = run_is_front input small b w p g in
+    is.text ∙ written_whole w.octets w.filled (told_of p.quiet p.arrivals is.answers) (is.whole room (front_brief reached full is.front))

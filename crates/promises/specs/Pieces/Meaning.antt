@@ -1,12 +1,9 @@
 -- The calls that an input of many records is, and what a run over a piece of it is to leave.
-use Rattle.std.specs.Prelude.{ℕ, ◌+◌, ◌%◌, ◌^◌, ◌<◌, ◌≤◌, true, false, List, [], ◌∷◌, ◌++◌, ◌≡◌, length, drop}
+use Rattle.std.specs.Prelude.{ℕ, ◌+◌, ◌%◌, ◌^◌, ◌<◌, ◌≤◌, true, false, Some, None, List, [], ◌∷◌, ◌++◌, ◌≡◌, length, drop}
 use Rattle.record.specs.declared.Refusal.{Refusal}
-use Rattle.record.specs.Meaning.{refusal_number_of}
-use Rattle.verdict.specs.Meaning.{Answer}
-use Rattle.verdict.specs.Meaning.{Verdict}
-use Rattle.verdict.specs.Meaning.{Refused}
+use Rattle.verdict.specs.Meaning.{Answer, Verdict, Refused}
 use Rattle.stage.specs.Meaning.{Bridge, take_of}
-use Rattle.text.specs.Meaning.{line_room, page, written}
+use Rattle.text.specs.Meaning.{line_room, Page, page, written}
 use Rattle.run.specs.declared.Progress.{Progress}
 use Rattle.run.specs.Meaning.{again_of, room_of, Ran, piece_run_of}
 use Rattle.run.specs.Input.Meaning.{Front, used_in, arrivals_in, verdict_line_of, told_of}
@@ -28,19 +25,19 @@ EachBrief (a ∷ answers) = Brief a.verdict × EachBrief answers
 -- a progress from which a run may begin or go on, within the piece
 pub record Going (input : List ℕ) (p : Progress) : Type 0 where
   pub within : p.at ≤ length input
-  pub none : p.refusal ≡ 0
+  pub none : p.refusal ≡ None
   pub records : p.records < 2 ^ 64
   pub arrivals : p.arrivals < 2 ^ 64
 
 -- a run stops at a refusal, where there is no room for another line, or where no octet is left
 pub data Stops (b : Bridge) (rest : List ℕ) (p : Progress) : Type 0 where
-  refused : (why : Refusal) → (take_of b rest).answer.verdict ≡ Refused why → p.refusal ≡ refusal_number_of why → Stops b rest p
-  full : p.refusal ≡ 0 → p.more ≡ false → Stops b rest p
-  used_up : p.refusal ≡ 0 → rest ≡ [] → Stops b rest p
+  refused : (why : Refusal) → (take_of b rest).answer.verdict ≡ Refused why → p.refusal ≡ Some why → Stops b rest p
+  full : p.refusal ≡ None → p.more ≡ false → Stops b rest p
+  used_up : p.refusal ≡ None → rest ≡ [] → Stops b rest p
 
 -- a run over the octets `input` from the progress p on took records at their front: it left the bridge and the octets as these leave them, counted them
--- (modulo 2^64), and wrote their lines
-pub record RunIs (input : List ℕ) (b : Bridge) (out : List ℕ) (p : Progress) (r : Ran) : Type 0 where
+-- (modulo 2^64), and put their lines on the page w
+pub record RunIs (input : List ℕ) (b : Bridge) (w : Page) (p : Progress) (r : Ran) : Type 0 where
   pub answers : List Answer
   pub front : Front b (drop p.at input) answers r.after (drop r.progress.at input)
   pub at : r.progress.at ≡ p.at + used_in answers
@@ -48,16 +45,16 @@ pub record RunIs (input : List ℕ) (b : Bridge) (out : List ℕ) (p : Progress)
   pub records : r.progress.records ≡ (p.records + length answers) % 2 ^ 64
   pub arrivals : r.progress.arrivals ≡ (p.arrivals + arrivals_in answers) % 2 ^ 64
   pub quiet : r.progress.quiet ≡ p.quiet
-  pub text : page r.out r.progress.filled ≡ written (page out p.filled) (told_of p.quiet p.arrivals answers)
+  pub text : r.page ≡ written w (told_of p.quiet p.arrivals answers)
   pub stops : Stops r.after (drop r.progress.at input) r.progress
   -- with room for a line at first, all their octets found a place
-  pub whole : room_of (length out) p.filled ≡ true → EachBrief answers → p.filled + length (told_of p.quiet p.arrivals answers) ≤ length out
+  pub whole : room_of w ≡ true → EachBrief answers → w.filled + length (told_of p.quiet p.arrivals answers) ≤ length w.octets
 
 -- runs one after another, from the octets s and the later pieces on: each over what the last one left, with the next piece behind it, and into a page of its
 -- own. `last` is what the last of them leaves, and `rest` the octets that it does not take
 pub data RunsOn : Bridge → List ℕ → Progress → List (List ℕ) → Ran → List ℕ → Type 0 where
-  ends : {b : Bridge} {s : List ℕ} {p : Progress} (out : List ℕ) (r : Ran) → length s < 2 ^ 64 → r ≡ piece_run_of (length s) s b out (again_of p) → RunsOn b s p [] r (drop r.progress.at s)
-  goes : {b : Bridge} {s rest : List ℕ} {p : Progress} {pieces : List (List ℕ)} {last : Ran} (out : List ℕ) (r : Ran) (piece : List ℕ) → length s < 2 ^ 64 → r ≡ piece_run_of (length s) s b out (again_of p)
+  ends : {b : Bridge} {s : List ℕ} {p : Progress} (octets : List ℕ) (r : Ran) → length s < 2 ^ 64 → r ≡ piece_run_of (length s) s b (page octets 0) (again_of p) → RunsOn b s p [] r (drop r.progress.at s)
+  goes : {b : Bridge} {s rest : List ℕ} {p : Progress} {pieces : List (List ℕ)} {last : Ran} (octets : List ℕ) (r : Ran) (piece : List ℕ) → length s < 2 ^ 64 → r ≡ piece_run_of (length s) s b (page octets 0) (again_of p)
       → RunsOn r.after (drop r.progress.at s ++ piece) r.progress pieces last rest → RunsOn b s p (piece ∷ pieces) last rest
 
 abbrev pub joined : List (List ℕ) → List ℕ
