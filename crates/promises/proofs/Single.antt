@@ -32,7 +32,7 @@ pub one_bank : (meaning : Rows) (w w' : Bank) → length w.words ≡ length w'.w
 one_bank meaning w w' same e e' = ap bank_of (rows_tell w.words w'.words same (e ∙ sym e'))
 
 -- what the code gives is told by its verdict or answer: a frame or a start, clear or setup record, a call
-back : Verdict → Result Outcome Refusal
+abbrev back : Verdict → Result Outcome Refusal
 back (Refused r) = Err r
 back Taken = Ok Done
 back (Passed p) = Ok (passed p)
@@ -47,7 +47,7 @@ said_back (Err r) = refl
 pub said_tells : (r r' : Result Outcome Refusal) → said r ≡ said r' → r ≡ r'
 said_tells r r' e = sym (said_back r) ∙ ap back e ∙ said_back r'
 
-kept : Verdict → Result (Unit {0}) Refusal
+abbrev kept : Verdict → Result (Unit {0}) Refusal
 kept (Refused r) = Err r
 kept Taken = Ok tt
 kept (Passed p) = Ok tt
@@ -60,7 +60,7 @@ kept_back (Err r) = refl
 pub set_up_tells : (r r' : Result (Unit {0}) Refusal) → set_up r ≡ set_up r' → r ≡ r'
 set_up_tells r r' e = sym (kept_back r) ∙ ap kept e ∙ kept_back r'
 
-taken_back : ℕ → Verdict → Result TakenRecord Refusal
+abbrev taken_back : ℕ → Verdict → Result TakenRecord Refusal
 taken_back used (Refused r) = Err r
 taken_back used Taken = Ok (record { used = used; outcome = Done })
 taken_back used (Passed p) = Ok (record { used = used; outcome = passed p })
