@@ -3,12 +3,10 @@
 #![tactic(auto)]
 
 ghost use Rattle.std.specs.Prelude.{◌≡◌, ◌+◌, ◌≤◌, length, option_map};
-ghost use Rattle.record.specs.Meaning.{kind_said, number_at, port, filter, gate, gate_entry, meter, group, scheduler, start, arrival, clear, refusal_number_of, record_length, in_turn_of, whole_of, read_of, view_of, body_of};
+ghost use Rattle.record.specs.Meaning.{kind_said, flag_said, flag_number_of, number_at, port, filter, gate, gate_entry, meter, group, scheduler, start, arrival, clear, refusal_number_of, record_length, in_turn_of, whole_of, read_of, view_of, body_of};
 ghost use Rattle.record.specs.Steps.{reading_of};
 
 use bucket::{Octets, Rate};
-
-// Kept: the fields are the numbers of the record, as the table `kind_row` and the theorems on flags (`oversize_stands_run` and its like) have them.
 
 // 01, kind 1. The overhead is in octets.
 #[derive(Clone, Copy)]
@@ -17,37 +15,36 @@ pub struct PortRecord {
     pub overhead: u8,
 }
 
-// 01, kind 2. Any-handle, the block and all numbers as they stand in the record: priority 8 is any, a max SDU of 0 none, meter and
+// 01, kind 2. No handle is any handle. All other numbers as they stand in the record: priority 8 is any, a max SDU of 0 none, meter and
 // scheduler 255 none. The max SDU is in octets.
 #[derive(Clone, Copy)]
 pub struct FilterRecord {
     pub id: u8,
-    pub any_handle: u8,
-    pub handle: u32,
+    pub handle: Option<u32>,
     pub priority: u8,
     pub gate: u8,
     pub max_sdu: u16,
-    pub oversize_block: u8,
+    pub oversize_block: bool,
     pub meter: u8,
     pub scheduler: u8,
 }
 
-// 01, kind 3. State 0 is closed, 1 open; IPV 8 is null; the base time is in nanoseconds.
+// 01, kind 3. IPV 8 is null; the base time is in nanoseconds.
 #[derive(Clone, Copy)]
 pub struct GateRecord {
     pub id: u8,
-    pub state: u8,
+    pub opened: bool,
     pub ipv: u8,
-    pub invalid_receive_block: u8,
-    pub octets_block: u8,
+    pub invalid_receive_block: bool,
+    pub octets_block: bool,
     pub base_time: u64,
 }
 
-// 01, kind 4. State and IPV as in kind 3; the interval is in nanoseconds, the maximum in octets, 2^32 - 1 being none.
+// 01, kind 4. The IPV as in kind 3; the interval is in nanoseconds, the maximum in octets, 2^32 - 1 being none.
 #[derive(Clone, Copy)]
 pub struct GateEntryRecord {
     pub gate: u8,
-    pub state: u8,
+    pub opened: bool,
     pub ipv: u8,
     pub interval: u32,
     pub octet_maximum: u32,
@@ -61,10 +58,10 @@ pub struct MeterRecord {
     pub cbs: Octets,
     pub eir: Rate,
     pub ebs: Octets,
-    pub coupling: u8,
-    pub colour_aware: u8,
-    pub drop_on_yellow: u8,
-    pub red_block: u8,
+    pub coupling: bool,
+    pub colour_aware: bool,
+    pub drop_on_yellow: bool,
+    pub red_block: bool,
 }
 
 // 01, kind 6. The residence is in nanoseconds.
@@ -96,14 +93,52 @@ pub struct ArrivalRecord {
     pub time: u64,
     pub handle: u32,
     pub priority: u8,
-    pub drop_eligible: u8,
+    pub drop_eligible: bool,
     pub msdu: u16,
 }
 
-// 01, kind 10. Flag 1 is a filter's oversize, 2 a gate's invalid-receive, 3 a gate's octets, 4 a meter's red.
+// 01, kind 10: the flags that a clear lowers, with the number of each.
+#[derive(Clone, Copy)]
+pub enum Flag {
+    // A filter's.
+    Oversize = 1,
+    // A gate's, both.
+    InvalidReceive = 2,
+    Octets = 3,
+    // A meter's.
+    Red = 4,
+}
+
+// Ruled out: numbers counted from 0; a gate's two flags the other way round.
+impl From<Flag> for u8 {
+    ghost from_gives = { λ flag n. n ≡ flag_number_of flag };
+
+    fn from(flag: Flag) -> u8 {
+        flag as u8
+    }
+}
+
+// Ruled out: a number above 4 that is taken; a gate's two flags the other way round.
+impl TryFrom<u8> for Flag {
+    type Error = Refusal;
+
+    ghost try_from_gives = { λ n flag. flag ≡ flag_said n };
+
+    fn try_from(n: u8) -> Result<Flag, Refusal> {
+        match n {
+            1 => Ok(Flag::Oversize),
+            2 => Ok(Flag::InvalidReceive),
+            3 => Ok(Flag::Octets),
+            4 => Ok(Flag::Red),
+            _ => Err(Refusal::OutOfRange),
+        }
+    }
+}
+
+// 01, kind 10. The id is that of the filter, gate or meter whose flag it is.
 #[derive(Clone, Copy)]
 pub struct ClearRecord {
-    pub flag: u8,
+    pub flag: Flag,
     pub id: u8,
 }
 
@@ -237,7 +272,6 @@ pub fn read(input: &[u8], started: bool) -> Result<(Record, usize), Refusal>
 
 // The body of the record at the front of the input that uses so many octets, as the very part of the input that follows its kind. Every
 // refusal, by the reader or later by the stage, uses 0 octets, so that its body is the empty part at the input's front.
-// Kept: the library's `get` says which octets a part has, and not that it is the very part of the input.
 // Ruled out: a body that begins with the kind; a body that is shown though the record was refused.
 #[tactic(auto, unfolding(crate::specs::Meaning::body_of, crate::specs::Meaning::body_in))]
 pub fn body(input: &[u8], used: usize) -> &[u8]
@@ -290,25 +324,26 @@ impl FilterRecord {
         requires { 14 ≤ length s.now }
         ensures { reading_of filter (option_map Record.Filter result) ≡ whole_of filter s.now }
     {
+        let any = s[2] == 1;
+        let handle = read_u32(s, 3);
         let r = FilterRecord {
             id: s[1],
-            any_handle: s[2],
-            handle: read_u32(s, 3),
+            handle: if any { None } else { Some(handle) },
             priority: s[7],
             gate: s[8],
             max_sdu: read_u16(s, 9),
-            oversize_block: s[11],
+            oversize_block: s[11] != 0,
             meter: s[12],
             scheduler: s[13],
         };
         // A filter for any handle has handle 0.
-        let fits = ((r.any_handle != 1) | (r.handle == 0))
+        let fits = (!any | (handle == 0))
             & (r.id <= sizes::LAST_FILTER)
-            & (r.any_handle <= 1)
+            & (s[2] <= 1)
             & (r.priority <= 8)
             & (r.gate <= sizes::LAST_GATE)
             & (r.max_sdu <= 2000)
-            & (r.oversize_block <= 1)
+            & (s[11] <= 1)
             & ((r.meter <= sizes::LAST_METER) | (r.meter == 255))
             & ((r.scheduler <= sizes::LAST_SCHEDULER) | (r.scheduler == 255));
         fits.then_some(r)
@@ -322,17 +357,17 @@ impl GateRecord {
     {
         let r = GateRecord {
             id: s[1],
-            state: s[2],
+            opened: s[2] != 0,
             ipv: s[3],
-            invalid_receive_block: s[4],
-            octets_block: s[5],
+            invalid_receive_block: s[4] != 0,
+            octets_block: s[5] != 0,
             base_time: read_u64(s, 6),
         };
         let fits = (r.id <= sizes::LAST_GATE)
-            & (r.state <= 1)
+            & (s[2] <= 1)
             & (r.ipv <= 8)
-            & (r.invalid_receive_block <= 1)
-            & (r.octets_block <= 1)
+            & (s[4] <= 1)
+            & (s[5] <= 1)
             & (r.base_time <= 4_611_686_018_427_387_904);
         fits.then_some(r)
     }
@@ -345,13 +380,13 @@ impl GateEntryRecord {
     {
         let r = GateEntryRecord {
             gate: s[1],
-            state: s[2],
+            opened: s[2] != 0,
             ipv: s[3],
             interval: read_u32(s, 4),
             octet_maximum: read_u32(s, 8),
         };
         let fits = (r.gate <= sizes::LAST_GATE)
-            & (r.state <= 1)
+            & (s[2] <= 1)
             & (r.ipv <= 8)
             & (1 <= r.interval)
             & (r.interval <= 1_000_000_000);
@@ -370,20 +405,20 @@ impl MeterRecord {
             cbs: Octets(read_u32(s, 10)),
             eir: Rate(read_u64(s, 14)),
             ebs: Octets(read_u32(s, 22)),
-            coupling: s[26],
-            colour_aware: s[27],
-            drop_on_yellow: s[28],
-            red_block: s[29],
+            coupling: s[26] != 0,
+            colour_aware: s[27] != 0,
+            drop_on_yellow: s[28] != 0,
+            red_block: s[29] != 0,
         };
         let fits = (r.id <= sizes::LAST_METER)
             & (r.cir.0 <= 10_000_000_000)
             & (r.cbs.0 <= 1_000_000)
             & (r.eir.0 <= 10_000_000_000)
             & (r.ebs.0 <= 1_000_000)
-            & (r.coupling <= 1)
-            & (r.colour_aware <= 1)
-            & (r.drop_on_yellow <= 1)
-            & (r.red_block <= 1);
+            & (s[26] <= 1)
+            & (s[27] <= 1)
+            & (s[28] <= 1)
+            & (s[29] <= 1);
         fits.then_some(r)
     }
 }
@@ -446,13 +481,13 @@ impl ArrivalRecord {
             time: read_u64(s, 2),
             handle: read_u32(s, 10),
             priority: s[14],
-            drop_eligible: s[15],
+            drop_eligible: s[15] != 0,
             msdu: read_u16(s, 16),
         };
         let fits = (r.port <= sizes::LAST_PORT)
             & (r.time <= 4_611_686_018_427_387_904)
             & (r.priority <= 7)
-            & (r.drop_eligible <= 1)
+            & (s[15] <= 1)
             & (r.msdu <= 2000);
         fits.then_some(r)
     }
@@ -463,20 +498,18 @@ impl ClearRecord {
         requires { 3 ≤ length s.now }
         ensures { reading_of clear (option_map Record.Clear result) ≡ whole_of clear s.now }
     {
-        let r = ClearRecord {
-            flag: s[1],
-            id: s[2],
+        let flag = Flag::try_from(s[1]).ok()?;
+        let id = s[2];
+        let last = match flag {
+            Flag::Oversize => sizes::LAST_FILTER,
+            // There are as many meters as gates.
+            Flag::InvalidReceive | Flag::Octets | Flag::Red => sizes::LAST_GATE,
         };
-        // The id is a filter's for flag 1, and a gate's or a meter's for the others.
-        let fits = ((r.id <= sizes::LAST_GATE) | ((r.flag == 1) & (r.id <= sizes::LAST_FILTER)))
-            & (1 <= r.flag)
-            & (r.flag <= 4);
-        fits.then_some(r)
+        (id <= last).then_some(ClearRecord { flag, id })
     }
 }
 
 // Numbers of two, four and eight octets, the first the most significant.
-// Kept: one function over a const parameter needs a trait for the three `from_be_bytes`, which is longer than these are.
 fn read_u16(s: &[u8], at: usize) -> u16
     requires { at + 2 ≤ length s.now }
     ensures { result ≡ number_at s.now at 2 }
@@ -495,14 +528,5 @@ fn read_u64(s: &[u8], at: usize) -> u64
     requires { at + 8 ≤ length s.now }
     ensures { result ≡ number_at s.now at 8 }
 {
-    u64::from_be_bytes([
-        s[at],
-        s[at + 1],
-        s[at + 2],
-        s[at + 3],
-        s[at + 4],
-        s[at + 5],
-        s[at + 6],
-        s[at + 7],
-    ])
+    u64::from_be_bytes([s[at], s[at + 1], s[at + 2], s[at + 3], s[at + 4], s[at + 5], s[at + 6], s[at + 7]])
 }
