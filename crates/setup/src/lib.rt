@@ -13,7 +13,7 @@ use filter::Filter;
 use gate::Gate;
 use meter::Meter;
 use record::{
-    ClearRecord, GateEntryRecord, GateRecord, GroupRecord, MeterRecord, PortRecord, Refusal,
+    ClearRecord, Flag, GateEntryRecord, GateRecord, GroupRecord, MeterRecord, PortRecord, Refusal,
     SchedulerRecord, StartRecord,
 };
 use scheduler::Scheduler;
@@ -54,10 +54,10 @@ pub fn set_gate(bank: &mut Bank, r: GateRecord) -> Result<(), Refusal>
     }
     bank.set_up_gate(
         i,
-        r.state != 0,
+        r.opened,
         r.ipv,
-        r.invalid_receive_block != 0,
-        r.octets_block != 0,
+        r.invalid_receive_block,
+        r.octets_block,
         r.base_time,
     );
     Ok(())
@@ -110,10 +110,10 @@ pub fn set_meter(bank: &mut Bank, r: MeterRecord) -> Result<(), Refusal>
         r.cbs,
         r.eir,
         r.ebs,
-        r.coupling != 0,
-        r.colour_aware != 0,
-        r.drop_on_yellow != 0,
-        r.red_block != 0,
+        r.coupling,
+        r.colour_aware,
+        r.drop_on_yellow,
+        r.red_block,
     );
     bank.set_up_meter(i, m);
     Ok(())
@@ -204,8 +204,8 @@ pub fn clear(bank: &mut Bank, r: ClearRecord, row: Filter) -> Result<(), Refusal
 {
     let i = r.id as usize;
     match r.flag {
-        1 if row.counts(bank) => bank.put_oversize(i, false),
-        2 if bank.gate_set(i) => {
+        Flag::Oversize if row.counts(bank) => bank.put_oversize(i, false),
+        Flag::InvalidReceive if bank.gate_set(i) => {
             let gate = bank.gate_at(i);
             bank.put_gate_state(
                 i,
@@ -215,7 +215,7 @@ pub fn clear(bank: &mut Bank, r: ClearRecord, row: Filter) -> Result<(), Refusal
                 },
             );
         }
-        3 if bank.gate_set(i) => {
+        Flag::Octets if bank.gate_set(i) => {
             let gate = bank.gate_at(i);
             bank.put_gate_state(
                 i,
@@ -225,7 +225,7 @@ pub fn clear(bank: &mut Bank, r: ClearRecord, row: Filter) -> Result<(), Refusal
                 },
             );
         }
-        4 if bank.meter_set(i) => {
+        Flag::Red if bank.meter_set(i) => {
             let meter = bank.meter_at(i);
             bank.put_meter_state(
                 i,
