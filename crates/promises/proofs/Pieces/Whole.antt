@@ -1,5 +1,6 @@
 -- No octet of a line is ever left out: no frame that a bridge can be given has a longer line than the room that is kept for one, so that a run which
 -- begins with that room prints the lines of its answers whole.
+use Rattle.record.specs.Meaning.{flag_number_of}
 use Rattle.std.specs.Prelude.{ℕ, ◌+◌, ◌%◌, ◌^◌, ◌<◌, Bool, true, false, List, ◌≡◌, refl, eqb, ltb, length, Ok}
 use Rattle.std.proofs.Common.{sym, ap, subst, ◌∙◌, arith}
 use Rattle.sizes.specs.Meaning.{filter_count, entry_count}
@@ -50,10 +51,10 @@ Answered x = Plain x.verdict
 clear_plain : (s : Rows) (r : ClearRecord) (row : Filter) → Answered (clear_of s r row)
 unfolding clear_of clear_oversize_of clear_invalid_receive_of clear_octets_of clear_red_of
 clear_plain s r row =
-    if_by Answered (eqb r.flag 1) _ _ (λ e. if_plain _ _ s _ taken)
-    (λ e. if_by Answered (eqb r.flag 2) _ _ (λ e. if_plain _ _ s _ taken)
-    (λ e. if_by Answered (eqb r.flag 3) _ _ (λ e. if_plain _ _ s _ taken)
-    (λ e. if_by Answered (eqb r.flag 4) _ _ (λ e. if_plain _ _ s _ taken) (λ e. refused _))))
+    if_by Answered (eqb (flag_number_of r.flag) 1) _ _ (λ e. if_plain _ _ s _ taken)
+    (λ e. if_by Answered (eqb (flag_number_of r.flag) 2) _ _ (λ e. if_plain _ _ s _ taken)
+    (λ e. if_by Answered (eqb (flag_number_of r.flag) 3) _ _ (λ e. if_plain _ _ s _ taken)
+    (λ e. if_by Answered (eqb (flag_number_of r.flag) 4) _ _ (λ e. if_plain _ _ s _ taken) (λ e. refused _))))
 
 never_passed : {A : Type 0} {v : Verdict} (p : Pass) → Plain v → v ≡ Passed p → A
 never_passed p (refused why) e = absurd (let z : ◌≡◌ {A = ℕ} 0 1 = cc in omega arith)
