@@ -43,7 +43,7 @@ module _ (k : Known) (b : Bridge) (a : Agrees k b) where
       by_test (eqb (flag_number_of x.flag) 1)
       (λ t. rw t (counts_said k s a.bank (k.filter x.id) (row_of b.table x.id) (a.filters x.id) (a.complete started x.id (omega (arith, ranged.ranges)))))
       (λ t.
-      let low : x.id ≤ last_gate = ranged.ranges.4 (eqb-false (flag_number_of x.flag) 1 t) in
+      let low : x.id ≤ last_gate = ranged.ranges.2 (eqb-false (flag_number_of x.flag) 1 t) in
       rw (t, gate_set k s a.bank x.id (omega (arith, low)), meter_set k s a.bank x.id (omega (arith, low))))
 
   same_tries : (r : Record) → InRange r → comes (turn_in r) (started_in k) ≡ true → record_tries b r ≡ record_tries_in k r

@@ -30,7 +30,6 @@ pub record Ready (b : Bridge) (a : ArrivalRecord) : Type 0 where
   pub begun : started_of b.bank ≡ true
   pub time_high : a.time ≤ 2 ^ 62
   pub priority_high : a.priority ≤ 7
-  pub mark_high : a.drop_eligible ≤ 1
   pub msdu_high : a.msdu ≤ 2000
 
 module _ (b : Bridge) (a : ArrivalRecord) (ready : Ready b a) where
