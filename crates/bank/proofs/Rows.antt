@@ -1,10 +1,8 @@
 -- Words as rows of eight: the state is its rows, and a store into a row changes that row alone.
 use Rattle.std.specs.Prelude.{◌≡◌, ℕ, ◌+◌, ◌*◌, ◌/◌, ◌%◌, ◌<◌, ◌≤◌, ◌≢◌, List, length, slice_index, slice_set, refl}
 use Rattle.std.proofs.Common.{ap, sym, ◌∙◌, arith, eq-eqb, ne_eqb, ext_get_or, ◌++◌, take, drop}
-use Rattle.std.proofs.Math.Seq.{take_all}
+use Rattle.std.proofs.Math.Seq.{take_all, paste}
 use Rattle.std.proofs.lemmas.List.Edits.{sets, sets-eq}
-use Rattle.std.proofs.lemmas.Slice.{put_mid-paste}
-use borrow.Rule.Slice.PartMut.{put_mid}
 use Rattle.std.proofs.Math.Path.{fun_ext}
 use Rattle.std.proofs.Math.Decide.{ℕ_discrete}
 use Rattle.sizes.specs.Meaning.{row_words}
@@ -63,15 +61,14 @@ module _ (ws : List ℕ) (r : ℕ) (vs : List ℕ) (whole : length vs ≡ row_wo
   pub rows_put : rows_in (put_row ws r vs) ≡ with_row (rows_in ws) r vs
   rows_put = fun_ext (λ q. at_row q (ℕ_discrete q r))
 
--- the same, as the code does it: a row is copied over a part of the words, which is then `us`
-pub part_put : (ws : List ℕ) (r k : ℕ) (us vs : List ℕ) → k ≡ row_words → us ≡ vs → length us ≡ row_words → r * row_words + row_words ≤ length ws → rows_in (put_mid (r * row_words) k ws us) ≡ with_row (rows_in ws) r vs
-part_put ws r k us vs e same whole fits =
-    ap rows_in
-    (put_mid-paste (r * row_words) k ws us us (length us) refl (whole ∙ sym e) refl
-    ∙ ap (λ (row : List ℕ). take (r * row_words) ws ++ row ++ drop (r * row_words + length us) ws) (take_all (length us) us (omega arith))
-    ∙ sym (store_is ws (r * row_words) 0 us ∙ ap (λ (i : ℕ). sets ws i us) (omega arith) ∙ sets-eq us ws (r * row_words) (omega arith)))
-    ∙ rows_put ws r us whole fits
-    ∙ ap (with_row (rows_in ws) r) same
+-- the same, as the code does it: n words of a row, which are all of them, stored one after another
+pub row_put : (ws : List ℕ) (r n : ℕ) (vs : List ℕ) → n ≡ row_words → length vs ≡ row_words → r * row_words + row_words ≤ length ws → rows_in (paste ws (r * row_words) vs n) ≡ with_row (rows_in ws) r vs
+row_put ws r n vs all whole fits =
+    let at = r * row_words in
+    let stored : paste ws at vs n ≡ store ws at 0 vs =
+    (λ i. take at ws ++ take_all n vs (omega (arith, all, whole)) i ++ drop (at + (all ∙ sym whole) i) ws)
+    ∙ sym (store_is ws at 0 vs ∙ ap (λ (k : ℕ). sets ws k vs) (omega arith) ∙ sets-eq vs ws at (omega (arith, whole, fits))) in
+    ap rows_in stored ∙ rows_put ws r vs whole fits
 
 -- a store of one word, the k-th of row r
 module _ (ws : List ℕ) (r k v : ℕ) (in_row : k < row_words) (fits : r * row_words + row_words ≤ length ws) where

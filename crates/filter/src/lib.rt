@@ -47,13 +47,13 @@ impl From<FilterRecord> for Filter {
 
     fn from(r: FilterRecord) -> Filter {
         Filter {
-            handle: r.handle,
+            handle: r.handle.unwrap_or(0),
             max_sdu: r.max_sdu,
             used: 1,
-            any_handle: r.any_handle,
+            any_handle: r.handle.is_none() as u8,
             priority: r.priority,
             gate: r.gate,
-            oversize_block: r.oversize_block,
+            oversize_block: r.oversize_block as u8,
             meter: r.meter,
             scheduler: r.scheduler,
         }
@@ -159,8 +159,8 @@ impl Filter {
     pub fn fits(&self, key: Key) -> bool
         ensures { result ≡ fits_of key self.now }
     {
-        ((self.any_handle == 1) | (self.handle == key.handle))
-            && ((self.priority == 8) | (self.priority == key.priority))
+        (self.any_handle == 1 || self.handle == key.handle)
+            && (self.priority == 8 || self.priority == key.priority)
     }
 
     // Whether a row counts after start; any other counts as empty.

@@ -1,10 +1,14 @@
--- `Bank::put_row` meets its contract: a row copied over a part of the words is `part_put`.
-use Rattle.std.proofs.Common.{◌+◌, ◌*◌, ◌∙◌, arith}
-use borrow.Rule.Slice.PartMut.{mid_len}
-use Rattle.bank.proofs.Rows.{part_put}
+-- `Bank::put_row` meets its contract: each turn stores one word more (`paste_more`), and eight of them are the row (`row_put`).
+use Rattle.std.proofs.Common.{◌*◌, ◌+◌, List, ℕ, slice_set, slice_index_or, ap, ◌∙◌, arith}
+use Rattle.std.proofs.lemmas.List.Edits.{paste_more}
+use Rattle.bank.specs.Meaning.{rows_in}
+use Rattle.bank.proofs.Rows.{row_put}
 use Rattle.bank.proofs.Bank.put_row.Goals as goal
 
+pub loop-k-preserved : goal.loop-k-preserved
+loop-k-preserved c =
+    ap (λ (ws : List ℕ). slice_set ws (c.args.r * 8 + c.loop-k.k) (slice_index_or c.args.row c.loop-k.k 0)) c.loop-k.invariant
+    ∙ paste_more c.args.self.now.words (c.args.r * 8) c.args.row c.loop-k.k 0 (omega arith) (omega arith)
+
 pub returns : goal.returns
-returns c =
-    part_put c.args.self.now.words c.args.r _ _ c.args.row (omega arith) c.copy_from_slice.ensures.after
-    (c.copy_from_slice.ensures.len ∙ mid_len _ (c.args.r * 8 + 8) c.args.self.now.words (omega arith) ∙ omega arith) (omega arith)
+returns c = ap rows_in c.loop-k.invariant ∙ row_put c.args.self.now.words c.args.r c.loop-k.k c.args.row (omega arith) (omega arith) (omega arith)
