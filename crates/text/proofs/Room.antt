@@ -1,6 +1,7 @@
 -- The room of a line: where there are places enough, all of it is put, octet by octet after what is filled; and no line needs more of them than
 -- are kept for it (`line_room`).
-use Rattle.std.specs.Prelude.{ℕ, zero, suc, ◌+◌, ◌*◌, ◌/◌, ◌%◌, ◌^◌, ◌<◌, ◌≤◌, true, Option, Some, None, List, [], ◌∷◌, ◌++◌, ◌≡◌, refl, leb, ltb, length, set, take, drop}
+use mir.Val.{bool_byte}
+use Rattle.std.specs.Prelude.{ℕ, Bool, false, zero, suc, ◌+◌, ◌*◌, ◌/◌, ◌%◌, ◌^◌, ◌<◌, ◌≤◌, true, Option, Some, None, List, [], ◌∷◌, ◌++◌, ◌≡◌, refl, leb, ltb, length, set, take, drop}
 use Rattle.std.proofs.Common.{sym, ap, ◌∙◌, arith, add-one, leb-true, ltb-true, ltb-false, length-set}
 use Rattle.std.proofs.Math.ListN.{length-append}
 use Rattle.std.proofs.lemmas.List.Edits.{sets, sets-eq}
