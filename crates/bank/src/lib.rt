@@ -4,7 +4,7 @@
 // Every function is total: an index is taken modulo the size of its table, and every word has a meaning.
 #![tactic(auto)]
 
-ghost use Rattle.std.specs.Prelude.{◌≡◌, ◌+◌, ◌%◌, ◌<◌, length};
+ghost use Rattle.std.specs.Prelude.{◌≡◌, ◌+◌, ◌%◌, ◌<◌, ◌≤◌};
 ghost use Rattle.sizes.specs.Meaning.{row_words};
 ghost use Rattle.bank.specs.Meaning.{rows_of, with_row, bank_rows, word, with_word, component, with_classes, with_clock, with_overhead, port, with_port, with_discarded, counters, counter_place, bump, with_oversize, gate, gate_is_set, entries, with_gate, with_entries, with_gate_state, meter, meter_is_set, with_meter, with_meter_state, group, with_group, with_group_last, scheduler, scheduler_is_set, scheduler_group, burst, octets_in, with_scheduler, with_scheduler_state};
 
@@ -134,7 +134,7 @@ impl Table {
     // The row of object `i`.
     fn row(self, i: usize) -> usize
         requires some { 0 < self.rows }
-        requires fits { self.first + self.rows < bank_rows + 1 }
+        requires fits { self.first + self.rows ≤ bank_rows }
         ensures { result ≡ self.first + i % self.rows }
     {
         self.first + i % self.rows

@@ -11,7 +11,7 @@ use Rattle.sizes.specs.Meaning.{filter_count}
 use Rattle.bank.specs.Meaning.{Rows}
 use Rattle.filter.specs.declared.Filter.{Filter}
 use Rattle.filter.specs.declared.Key.{Key}
-use Rattle.filter.specs.Meaning.{no_row, is_filter_of, counts_of, row_of, Asks, Fits, Any, Question, of_every_place, row_answers, Found, first_found, search_from, search_of}
+use Rattle.filter.specs.Meaning.{no_row, is_filter_of, counts_of, row_of, Asks, Fits, Any, Question, of_every_place, row_answers, first_found, search_from, search_of}
 use Rattle.filter.specs.Search.{first_of_all}
 use Rattle.filter.proofs.Laws.{SameParts, Asking, answers_asked, answers_same, answers_empty, answers_spoiled, answers_no_filter}
 

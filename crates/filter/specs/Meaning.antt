@@ -1,6 +1,6 @@
 -- What a row of the filter table says (01, Records, kind 2 and the filter table's paragraph), which rows start refuses (01, refusals 7 and 8),
 -- and which row a frame uses (01, A frame's path, step 1).
-use Rattle.std.specs.Prelude.{ℕ, zero, suc, ◌+◌, ◌-◌, Bool, true, false, not, ◌&&◌, ◌||◌, cond, List, eqb, leb, ltb, get_or, Option, Some, None, is_some, is_none, unwrap_or}
+use Rattle.std.specs.Prelude.{ℕ, zero, suc, ◌+◌, ◌-◌, Bool, true, not, ◌&&◌, ◌||◌, cond, List, eqb, leb, ltb, get_or, Option, Some, None, is_some, is_none, unwrap_or}
 use mir.Val.{bool_byte}
 use Rattle.sizes.specs.Meaning.{filter_count, last_gate, last_meter, last_scheduler}
 use Rattle.frame.specs.Meaning.{length_of}

@@ -30,7 +30,7 @@ within_holds so (upto_or_255 n) v e =
     let p = both so (leb v n || eqb v 255) e in
     (p.0, ⊎_elim (λ h. inl (leb-true v n h)) (λ h. inr (eqb-true v 255 h)) (either (leb v n) (eqb v 255) p.1))
 
-all_within_lem : (so : Bool) (fs : List Field) (vs : List ℕ) → all_within so fs vs ≡ true → (so ≡ true) × AllWithin fs vs
+pub all_within_lem : (so : Bool) (fs : List Field) (vs : List ℕ) → all_within so fs vs ≡ true → (so ≡ true) × AllWithin fs vs
 all_within_lem so [] vs e = (e, tt)
 all_within_lem so (f ∷ fs) [] e = (e, tt)
 all_within_lem so (f ∷ fs) (v ∷ vs) e =

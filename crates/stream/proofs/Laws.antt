@@ -1,5 +1,6 @@
 -- A piece takes a stream from one place to the next, and at its end the stream is what `Drains` says.
-use Rattle.std.specs.Prelude.{◌≡◌, ℕ, ◌+◌, ◌-◌, ◌%◌, ◌^◌, ◌<◌, Bool, Some, None, List, [], ◌++◌, length, take, drop, refl}
+use Rattle.std.specs.Prelude.{◌≡◌, ℕ, ◌+◌, ◌-◌, ◌%◌, ◌^◌, ◌<◌, Bool, false, Option, Some, None, Result, Ok, Err, is_some, List, [], ◌++◌, length, take, drop, refl}
+use Rattle.std.specs.Result.{result_err}
 use Rattle.std.proofs.Common.{sym, ap, subst, ◌∙◌, arith, length-take, length-drop, length-append}
 use Rattle.std.proofs.Math.Seq.{take-append_seam}
 use Rattle.sizes.specs.Meaning.{filter_count}
@@ -25,6 +26,15 @@ use Rattle.stream.specs.declared.Stream.{Stream}
 use Rattle.stream.specs.declared.Drained.{Drained}
 use Rattle.stream.specs.Meaning.{empty_table, ended_of, Drains}
 use Rattle.stream.specs.Stands.{Stands, ended_by}
+
+-- the tests of the code
+pub none_by : {T : Type 0} (o : Option T) → is_some o ≡ false → o ≡ None
+none_by None e = refl
+none_by (Some x) e = cc
+
+pub ok_by : {E : Type 0} (r : Result (Unit {0}) E) → result_err r ≡ None → r ≡ Ok tt
+ok_by (Ok x) e = refl
+ok_by (Err x) e = cc
 
 -- before the first piece
 module _ (bank : Rows) (lists buffer : List ℕ) (w : Page) where

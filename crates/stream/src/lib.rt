@@ -2,7 +2,7 @@
 // A record that the end of a piece cuts waits at the front of the buffer for its rest.
 #![tactic(auto)]
 
-ghost use Rattle.std.specs.Prelude.{◌≡◌};
+ghost use Rattle.std.specs.Prelude.{◌≡◌, false};
 ghost use Rattle.bank.specs.Meaning.{rows_of};
 ghost use Rattle.stage.specs.Meaning.{Bridge};
 ghost use Rattle.text.specs.Meaning.{written};
@@ -67,9 +67,12 @@ pub fn report<W: Write>(output: &mut W, bank: &Bank, d: Drained) -> Drained
     }
     let mut page = Page::<65536>::new();
     page.put_report(bank);
-    Drained {
-        failure: pieces::write(output, page.text()).err(),
-        ..d
+    match pieces::write(output, page.text()) {
+        Ok(()) => d,
+        Err(failure) => Drained {
+            failure: Some(failure),
+            ..d
+        },
     }
 }
 
@@ -85,7 +88,7 @@ pub fn close<W: Write, E: Write>(output: &mut W, errors: &mut E, program: &[u8],
 }
 
 // There is none where something has failed.
-#[tactic(auto, unfolding(crate::specs::Meaning::last_line_of))]
+#[tactic(auto, using(text::proofs::Laws::written_none), unfolding(crate::specs::Meaning::last_line_of))]
 fn last_line<const N: usize>(page: &mut Page<N>, d: Drained)
     ensures { page.new ≡ written page.old (last_line_of d) }
 {

@@ -1,71 +1,71 @@
 // Schedulers: ★A to ★E.
 use bucket::{Octets, Rate};
-use scheduler::{Outcome, Scheduler};
+use scheduler::{Offer, Outcome, Scheduler};
 use std::io;
 
-// A scheduler, and its group's last time.
+// A scheduler that is alone in its group, and the group's last time.
 #[derive(Clone, Copy)]
 struct Alone {
     scheduler: Scheduler,
     group: u64,
 }
 
+impl Alone {
+    // A burst of 1000 octets, all there.
+    fn full(rate: u64) -> Alone {
+        Alone {
+            scheduler: Scheduler {
+                rate: Rate(rate),
+                burst: Octets(1000),
+                level: bucket::full(Octets(1000)),
+                last: 0,
+            },
+            group: 0,
+        }
+    }
+
+    // A frame of 500 octets, with a residence of 10,000 ns.
+    fn offer(&mut self, rt: &impl Print, arrival: u64) -> io::Result<()> {
+        let outcome = self.scheduler.step_in_place(Offer {
+            group: self.group,
+            residence: 10_000,
+            arrival,
+            length: Octets(500),
+        });
+        match outcome {
+            Outcome::Admitted { at } => {
+                self.group = at;
+                print!(rt; " {at}")
+            }
+            Outcome::Dropped => print!(rt; " drop 8"),
+            Outcome::Refused => print!(rt; " refused 3"),
+        }
+    }
+}
+
 pub fn print(rt: &impl Print) -> io::Result<()> {
     print!(rt; "A")?;
-    let a = offer(rt, full(1_000_000_000), 0, 0)?;
-    let b = next(rt, a, 0)?;
-    let c = next(rt, b, 0)?;
-    let d = next(rt, c, 0)?;
+    let mut s = Alone::full(1_000_000_000);
+    s.offer(rt, 0)?;
+    s.offer(rt, 0)?;
+    s.offer(rt, 0)?;
+    let group = s.group;
+    s.offer(rt, 0)?;
     print!(rt; "\nB")?;
-    let e = next(rt, d, 0)?;
+    s.offer(rt, 0)?;
     print!(rt; "\nC")?;
-    next(rt, e, 2000)?;
+    s.offer(rt, 2000)?;
     print!(rt; "\nD")?;
-    let f = offer(rt, full(3_000_000_000), 0, 0)?;
-    let g = next(rt, f, 0)?;
-    let h = next(rt, g, 0)?;
-    let i = next(rt, h, 0)?;
-    next(rt, i, 0)?;
+    let mut s = Alone::full(3_000_000_000);
+    for _ in 0..5 {
+        s.offer(rt, 0)?;
+    }
+    // Another scheduler of the group, after A's third.
     print!(rt; "\nE")?;
-    offer(rt, full(1_000_000_000), c.group, 0)?;
+    let mut s = Alone {
+        group,
+        ..Alone::full(1_000_000_000)
+    };
+    s.offer(rt, 0)?;
     println!(rt; "")
-}
-
-// A burst of 1000 octets, all there.
-fn full(rate: u64) -> Scheduler {
-    Scheduler {
-        rate: Rate(rate),
-        burst: Octets(1000),
-        level: 1000 * bucket::GRAINS,
-        last: 0,
-    }
-}
-
-// A frame of 500 octets, with a residence of 10,000 ns.
-fn offer(rt: &impl Print, s: Scheduler, group: u64, arrival: u64) -> io::Result<Alone> {
-    let r = scheduler::offered(s, group, 10_000, arrival, Octets(500));
-    let o = r.outcome;
-    say(rt, o)?;
-    let scheduler = r.scheduler;
-    match o {
-        Outcome::Admitted { at } => Ok(Alone {
-            scheduler,
-            group: at,
-        }),
-        Outcome::Dropped => Ok(Alone { scheduler, group }),
-        Outcome::Refused => Ok(Alone { scheduler, group }),
-    }
-}
-
-fn next(rt: &impl Print, r: Alone, arrival: u64) -> io::Result<Alone> {
-    let s = r.scheduler;
-    offer(rt, s, r.group, arrival)
-}
-
-fn say(rt: &impl Print, o: Outcome) -> io::Result<()> {
-    match o {
-        Outcome::Admitted { at } => print!(rt; " {at}"),
-        Outcome::Dropped => print!(rt; " drop 8"),
-        Outcome::Refused => print!(rt; " refused 3"),
-    }
 }

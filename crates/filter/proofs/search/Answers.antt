@@ -1,9 +1,8 @@
 -- `filter::search` meets its contract: the row that the closure passes is the first that does (`first_at`), and where it passes none, no place
 -- passes (`first_nowhere`), for those past the table's end are empty.
-use Rattle.std.proofs.Common.{◌≡◌, ℕ, ◌≤◌, sym, ◌∙◌, ap, arith, rules, Some, length, min}
+use Rattle.std.proofs.Common.{sym, ◌∙◌, ap, arith, rules, Some}
 use Rattle.std.proofs.lemmas.List.{length-take}
 use Rattle.filter.specs.declared.Filter.{Filter}
-use Rattle.filter.specs.Meaning.{row_of}
 use Rattle.filter.proofs.SearchLaws.{first_at, first_nowhere, row_within, all_before}
 use Rattle.filter.proofs.search.Goals as goal
 
