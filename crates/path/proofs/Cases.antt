@@ -17,7 +17,7 @@ use Rattle.verdict.specs.declared.Drop.TheVariants as drop
 use Rattle.verdict.specs.Meaning.{Refused, Dropped, told}
 use Rattle.path.specs.Meaning.{pass_of, sdu_failed, sdu_passed, offered_of, scheduled_by, scheduled_of, coloured_of, metered_by, metered_of, reached_of, gated_by, gated_of, sdu_filtered_of, arrival_of}
 
-module _ (s : Rows) (a : ArrivalRecord) (row : Filter) (priority mark : ℕ) where
+module _ (s : Rows) (a : ArrivalRecord) (row : Filter) (priority : ℕ) (mark : Bool) where
   pub scheduled_none : row.scheduler ≡ 255 → scheduled_of s a row priority mark ≡ told s (pass_of s priority mark None)
   unfolding scheduled_of
   scheduled_none h = rw (eq-eqb _ _ h)

@@ -4,7 +4,7 @@ use Rattle.std.proofs.Math.Option.{Option, none, some}
 use Rattle.std.proofs.Common.{◌∙◌, arith}
 use borrow.Author.Tests.{le-leb, lt-leb}
 use Rattle.record.specs.declared.Refusal.TheVariants.{CutShort, OutOfTurn}
-use Rattle.record.specs.Meaning.{Kind, kind_of, known_as, kind_said, record_length, in_turn_of, whole_of, read_as, read_of}
+use Rattle.record.specs.Meaning.{Kind, kind_of, known_as, kind_named, record_length, in_turn_of, whole_of, read_as, read_of}
 
 -- a record of a kind has an octet at least
 pub length_positive : (k : Kind) → 1 ≤ record_length k
@@ -19,7 +19,7 @@ unfolding read_of
 read_by_kind [] started k e = cc
 read_by_kind (n ∷ s) started k e = rw e
 
-module _ (s : List ℕ) (started : Bool) (k : Kind) (said : kind_said (get_or s 0 0) ≡ Ok k) where
+module _ (s : List ℕ) (started : Bool) (k : Kind) (said : kind_named (get_or s 0 0) ≡ Ok k) where
   read_known : read_of s started ≡ read_as (some k) started s
   read_known = read_by_kind s started k (known_is (kind_of (get_or s 0 0)) k said)
 

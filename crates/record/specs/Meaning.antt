@@ -31,8 +31,8 @@ abbrev pub known_as : Option Kind → Result Kind Refusal
 known_as none = Err UnknownKind
 known_as (some k) = Ok k
 
-abbrev pub kind_said : ℕ → Result Kind Refusal
-kind_said n = known_as (kind_of n)
+abbrev pub kind_named : ℕ → Result Kind Refusal
+kind_named n = known_as (kind_of n)
 
 -- ---- fields
 

@@ -5,6 +5,6 @@ use Rattle.record.specs.declared.Refusal.TheVariants.{OutOfRange}
 use Rattle.record.specs.Meaning.{Kind, Reading, record_length}
 
 -- what reading a record of this kind gives, whose octets are all there, where its fields give the record or are out of range
-abbrev pub reading_of : Kind → Option Record → Reading
-reading_of k None = Err OutOfRange
-reading_of k (Some r) = Ok (r, record_length k)
+abbrev pub taken_as : Kind → Option Record → Reading
+taken_as k None = Err OutOfRange
+taken_as k (Some r) = Ok (r, record_length k)

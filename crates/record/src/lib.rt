@@ -3,8 +3,8 @@
 #![tactic(auto)]
 
 ghost use Rattle.std.specs.Prelude.{◌≡◌, ◌+◌, ◌≤◌, length, option_map};
-ghost use Rattle.record.specs.Meaning.{kind_said, flag_said, flag_number_of, number_at, port, filter, gate, gate_entry, meter, group, scheduler, start, arrival, clear, refusal_number_of, record_length, in_turn_of, whole_of, read_of, view_of, body_of};
-ghost use Rattle.record.specs.Steps.{reading_of};
+ghost use Rattle.record.specs.Meaning.{kind_named, flag_said, flag_number_of, number_at, port, filter, gate, gate_entry, meter, group, scheduler, start, arrival, clear, refusal_number_of, record_length, in_turn_of, whole_of, read_of, view_of, body_of};
+ghost use Rattle.record.specs.Steps.{taken_as};
 
 use bucket::{Octets, Rate};
 
@@ -200,7 +200,7 @@ pub enum Kind {
 impl TryFrom<u8> for Kind {
     type Error = Refusal;
 
-    ghost try_from_gives = { λ octet r. r ≡ kind_said octet };
+    ghost try_from_gives = { λ octet r. r ≡ kind_named octet };
 
     fn try_from(octet: u8) -> Result<Kind, Refusal> {
         match octet {
@@ -288,7 +288,7 @@ impl Record {
     // A record whose octets are all there, if its fields are in range.
     fn read(kind: Kind, s: &[u8]) -> Option<Record>
         requires { record_length kind ≤ length s.now }
-        ensures { reading_of kind result ≡ whole_of kind s.now }
+        ensures { taken_as kind result ≡ whole_of kind s.now }
     {
         Some(match kind {
             Kind::Port => Record::Port(PortRecord::read(s)?),
@@ -308,7 +308,7 @@ impl Record {
 impl PortRecord {
     fn read(s: &[u8]) -> Option<PortRecord>
         requires { 3 ≤ length s.now }
-        ensures { reading_of port (option_map Record.Port result) ≡ whole_of port s.now }
+        ensures { taken_as port (option_map Record.Port result) ≡ whole_of port s.now }
     {
         let r = PortRecord {
             port: s[1],
@@ -322,7 +322,7 @@ impl PortRecord {
 impl FilterRecord {
     fn read(s: &[u8]) -> Option<FilterRecord>
         requires { 14 ≤ length s.now }
-        ensures { reading_of filter (option_map Record.Filter result) ≡ whole_of filter s.now }
+        ensures { taken_as filter (option_map Record.Filter result) ≡ whole_of filter s.now }
     {
         let any = s[2] == 1;
         let handle = read_u32(s, 3);
@@ -353,7 +353,7 @@ impl FilterRecord {
 impl GateRecord {
     fn read(s: &[u8]) -> Option<GateRecord>
         requires { 14 ≤ length s.now }
-        ensures { reading_of gate (option_map Record.Gate result) ≡ whole_of gate s.now }
+        ensures { taken_as gate (option_map Record.Gate result) ≡ whole_of gate s.now }
     {
         let r = GateRecord {
             id: s[1],
@@ -376,7 +376,7 @@ impl GateRecord {
 impl GateEntryRecord {
     fn read(s: &[u8]) -> Option<GateEntryRecord>
         requires { 12 ≤ length s.now }
-        ensures { reading_of gate_entry (option_map Record.GateEntry result) ≡ whole_of gate_entry s.now }
+        ensures { taken_as gate_entry (option_map Record.GateEntry result) ≡ whole_of gate_entry s.now }
     {
         let r = GateEntryRecord {
             gate: s[1],
@@ -397,7 +397,7 @@ impl GateEntryRecord {
 impl MeterRecord {
     fn read(s: &[u8]) -> Option<MeterRecord>
         requires { 30 ≤ length s.now }
-        ensures { reading_of meter (option_map Record.Meter result) ≡ whole_of meter s.now }
+        ensures { taken_as meter (option_map Record.Meter result) ≡ whole_of meter s.now }
     {
         let r = MeterRecord {
             id: s[1],
@@ -426,7 +426,7 @@ impl MeterRecord {
 impl GroupRecord {
     fn read(s: &[u8]) -> Option<GroupRecord>
         requires { 6 ≤ length s.now }
-        ensures { reading_of group (option_map Record.Group result) ≡ whole_of group s.now }
+        ensures { taken_as group (option_map Record.Group result) ≡ whole_of group s.now }
     {
         let r = GroupRecord {
             id: s[1],
@@ -442,7 +442,7 @@ impl GroupRecord {
 impl SchedulerRecord {
     fn read(s: &[u8]) -> Option<SchedulerRecord>
         requires { 15 ≤ length s.now }
-        ensures { reading_of scheduler (option_map Record.Scheduler result) ≡ whole_of scheduler s.now }
+        ensures { taken_as scheduler (option_map Record.Scheduler result) ≡ whole_of scheduler s.now }
     {
         let r = SchedulerRecord {
             id: s[1],
@@ -463,7 +463,7 @@ impl SchedulerRecord {
 impl StartRecord {
     fn read(s: &[u8]) -> Option<StartRecord>
         requires { 2 ≤ length s.now }
-        ensures { reading_of start (option_map Record.Start result) ≡ whole_of start s.now }
+        ensures { taken_as start (option_map Record.Start result) ≡ whole_of start s.now }
     {
         let r = StartRecord { classes: s[1] };
         let fits = (1 <= r.classes) & (r.classes <= 8);
@@ -474,7 +474,7 @@ impl StartRecord {
 impl ArrivalRecord {
     fn read(s: &[u8]) -> Option<ArrivalRecord>
         requires { 18 ≤ length s.now }
-        ensures { reading_of arrival (option_map Record.Arrival result) ≡ whole_of arrival s.now }
+        ensures { taken_as arrival (option_map Record.Arrival result) ≡ whole_of arrival s.now }
     {
         let r = ArrivalRecord {
             port: s[1],
@@ -496,7 +496,7 @@ impl ArrivalRecord {
 impl ClearRecord {
     fn read(s: &[u8]) -> Option<ClearRecord>
         requires { 3 ≤ length s.now }
-        ensures { reading_of clear (option_map Record.Clear result) ≡ whole_of clear s.now }
+        ensures { taken_as clear (option_map Record.Clear result) ≡ whole_of clear s.now }
     {
         let flag = Flag::try_from(s[1]).ok()?;
         let id = s[2];

@@ -6,6 +6,7 @@ use Rattle.std.proofs.Common.{sym, add-zero, zero-add, arith, ⊎_elim, ap, ◌�
 use borrow.Author.Tests.{lt-ltb, le-ltb, eqb-true}
 use Rattle.sizes.specs.Meaning.{entry_count, entry_octets}
 use Rattle.logic.specs.Laws.{neither_left, neither_right, if_by}
+use Rattle.record.specs.Meaning.{flag_number_of}
 use Rattle.record.specs.declared.GateEntryRecord.{GateEntryRecord}
 use Rattle.record.specs.declared.ClearRecord.{ClearRecord}
 use Rattle.record.specs.declared.Refusal.{Refusal}
@@ -74,28 +75,28 @@ kept_more ws body kept at k v below e h =
     rw (e, add-one) (rw more at h)
 
 module _ (s : Rows) (r : ClearRecord) (row : Filter) where
-  pub clear_oversize : r.flag ≡ 1 → clear_of s r row ≡ clear_oversize_of s r.id row
+  pub clear_oversize : flag_number_of r.flag ≡ 1 → clear_of s r row ≡ clear_oversize_of s r.id row
   unfolding clear_of
   clear_oversize e = rw e
 
-  pub clear_invalid_receive : r.flag ≡ 2 → clear_of s r row ≡ clear_invalid_receive_of s r.id
+  pub clear_invalid_receive : flag_number_of r.flag ≡ 2 → clear_of s r row ≡ clear_invalid_receive_of s r.id
   unfolding clear_of
   clear_invalid_receive e = rw e
 
-  pub clear_octets : r.flag ≡ 3 → clear_of s r row ≡ clear_octets_of s r.id
+  pub clear_octets : flag_number_of r.flag ≡ 3 → clear_of s r row ≡ clear_octets_of s r.id
   unfolding clear_of
   clear_octets e = rw e
 
-  pub clear_red : r.flag ≡ 4 → clear_of s r row ≡ clear_red_of s r.id
+  pub clear_red : flag_number_of r.flag ≡ 4 → clear_of s r row ≡ clear_red_of s r.id
   unfolding clear_of
   clear_red e = rw e
 
 -- what holds of each flag's clear, and where there is no such flag, holds of the clear
-pub clear_by_lem : (P : Told → Type 0) (s : Rows) (r : ClearRecord) (row : Filter) → (r.flag ≡ 1 → P (clear_oversize_of s r.id row)) → (r.flag ≡ 2 → P (clear_invalid_receive_of s r.id)) → (r.flag ≡ 3 → P (clear_octets_of s r.id))
-    → (r.flag ≡ 4 → P (clear_red_of s r.id)) → P (told s (Refused NotSetUp)) → P (clear_of s r row)
+pub clear_by_lem : (P : Told → Type 0) (s : Rows) (r : ClearRecord) (row : Filter) → (flag_number_of r.flag ≡ 1 → P (clear_oversize_of s r.id row)) → (flag_number_of r.flag ≡ 2 → P (clear_invalid_receive_of s r.id)) → (flag_number_of r.flag ≡ 3 → P (clear_octets_of s r.id))
+    → (flag_number_of r.flag ≡ 4 → P (clear_red_of s r.id)) → P (told s (Refused NotSetUp)) → P (clear_of s r row)
 unfolding clear_of
 clear_by_lem P s r row f₁ f₂ f₃ f₄ none =
-    if_by P (eqb r.flag 1) _ _ (λ e. f₁ (eqb-true _ _ e))
-    (λ _. if_by P (eqb r.flag 2) _ _ (λ e. f₂ (eqb-true _ _ e))
-    (λ _. if_by P (eqb r.flag 3) _ _ (λ e. f₃ (eqb-true _ _ e))
-    (λ _. if_by P (eqb r.flag 4) _ _ (λ e. f₄ (eqb-true _ _ e)) (λ _. none))))
+    if_by P (eqb (flag_number_of r.flag) 1) _ _ (λ e. f₁ (eqb-true _ _ e))
+    (λ _. if_by P (eqb (flag_number_of r.flag) 2) _ _ (λ e. f₂ (eqb-true _ _ e))
+    (λ _. if_by P (eqb (flag_number_of r.flag) 3) _ _ (λ e. f₃ (eqb-true _ _ e))
+    (λ _. if_by P (eqb (flag_number_of r.flag) 4) _ _ (λ e. f₄ (eqb-true _ _ e)) (λ _. none))))

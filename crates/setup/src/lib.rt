@@ -12,7 +12,7 @@ use bank::{Bank, Group, Lists, Port};
 use filter::Filter;
 use meter::Meter;
 use record::{
-    ClearRecord, GateEntryRecord, GateRecord, GroupRecord, MeterRecord, PortRecord, Refusal,
+    ClearRecord, Flag, GateEntryRecord, GateRecord, GroupRecord, MeterRecord, PortRecord, Refusal,
     SchedulerRecord, StartRecord,
 };
 use scheduler::Scheduler;
@@ -53,10 +53,10 @@ pub fn set_gate(bank: &mut Bank, r: GateRecord) -> Result<(), Refusal>
     }
     bank.set_up_gate(
         i,
-        r.state != 0,
+        r.opened,
         r.ipv,
-        r.invalid_receive_block != 0,
-        r.octets_block != 0,
+        r.invalid_receive_block,
+        r.octets_block,
         r.base_time,
     );
     Ok(())
@@ -109,10 +109,10 @@ pub fn set_meter(bank: &mut Bank, r: MeterRecord) -> Result<(), Refusal>
         r.cbs,
         r.eir,
         r.ebs,
-        r.coupling != 0,
-        r.colour_aware != 0,
-        r.drop_on_yellow != 0,
-        r.red_block != 0,
+        r.coupling,
+        r.colour_aware,
+        r.drop_on_yellow,
+        r.red_block,
     );
     bank.set_up_meter(i, m);
     Ok(())
@@ -203,18 +203,18 @@ pub fn clear(bank: &mut Bank, r: ClearRecord, row: Filter) -> Result<(), Refusal
 {
     let i = r.id as usize;
     match r.flag {
-        1 if row.counts(bank) => bank.put_oversize(i, false),
-        2 if bank.gate_set(i) => {
+        Flag::Oversize if row.counts(bank) => bank.put_oversize(i, false),
+        Flag::InvalidReceive if bank.gate_set(i) => {
             let mut gate = bank.gate_at(i);
             gate.invalid_receive_flag = false;
             bank.put_gate_state(i, gate);
         }
-        3 if bank.gate_set(i) => {
+        Flag::Octets if bank.gate_set(i) => {
             let mut gate = bank.gate_at(i);
             gate.octets_flag = false;
             bank.put_gate_state(i, gate);
         }
-        4 if bank.meter_set(i) => {
+        Flag::Red if bank.meter_set(i) => {
             let mut meter = bank.meter_at(i);
             meter.red_flag = false;
             bank.put_meter_state(i, meter);

@@ -72,7 +72,7 @@ impl From<Result<Taken, Refusal>> for Reply {
                         number: 0,
                         priority: p.priority,
                         class: p.class,
-                        drop_mark: p.drop_mark,
+                        drop_mark: p.drop_mark as u8,
                         timed: p.eligible.is_some() as u8,
                     },
                     Outcome::Dropped(d) => Reply {
