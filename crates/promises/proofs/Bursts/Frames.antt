@@ -135,7 +135,7 @@ module _ (k : Asked) (z : Constants) (g : ℕ) (Q : Told → Told → Type 0) (s
   metered_outcome : (s s' : Rows) → Over k z g s s' → (f priority : ℕ) (m : MeterOutcome) → Q (metered_by s a f row priority m) (metered_by s' a f row priority m)
   unfolding metered_by
   metered_outcome s s' o f priority Green = step s s' o priority a.drop_eligible
-  metered_outcome s s' o f priority Yellow = step s s' o priority 1
+  metered_outcome s s' o f priority Yellow = step s s' o priority true
   metered_outcome s s' o f priority YellowDropped = stop _ _ _ (red_counted_both k z g s s' o f)
   metered_outcome s s' o f priority Red = stop _ _ _ (red_counted_both k z g s s' o f)
   metered_outcome s s' o f priority OutOfRange = stop _ _ _ (red_counted_both k z g s s' o f)
