@@ -1,4 +1,5 @@
 // One step of a scheduler, of a meter and of a gate, each kept in words that are lent, as C and Rust call it: what bench/ measures.
+// Kept: words and numbers in place of structs and enums are the C interface of these functions.
 #![tactic(auto)]
 
 ghost use Rattle.std.specs.Prelude.{◌≡◌};

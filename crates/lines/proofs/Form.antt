@@ -1,5 +1,6 @@
 -- Laws of a form: what its octets, its marks and what is left of it come to.
-use Rattle.std.specs.Prelude.{ℕ, ◌+◌, ◌<◌, ◌≤◌, false, ◌≡◌, drop}
+use Rattle.std.specs.Prelude.{ℕ, ◌+◌, ◌<◌, ◌≤◌, false, cond, ◌≡◌, eqb, drop, Option, Some, None, is_none, unwrap_or}
+use mir.Val.{bool_byte}
 use Rattle.std.specs.Char.{is_ascii_uppercase}
 use Rattle.std.proofs.Math.Bool.{true}
 use mathlib.Core.List.{List, [], ◌∷◌, ◌++◌, append_assoc}
@@ -45,10 +46,15 @@ put_none p form vs i l = whole (drop i form) (omega (arith, l, length-drop i for
 
 -- ---- the line of a filter: a form, its handle, a form
 
+-- the two values of a handle, in its column
+handle_shown : (handle : Option ℕ) → cond (eqb (bool_byte (is_none handle)) 1) (ascii "any") (digits_of (unwrap_or handle 0)) ≡ handle_as handle
+handle_shown None = refl
+handle_shown (Some n) = refl
+
 pub filter_parts : (r : FilterRecord)
     → filled_in (ascii "filter id=N handle=") (r.id ∷ [])
-    ++ (handle_as r.any_handle r.handle
-    ++ filled_in (ascii " priority=A gate=N max-sdu=Z oversize-block=N meter=L scheduler=L\n") (r.priority ∷ r.gate ∷ r.max_sdu ∷ r.oversize_block ∷ r.meter ∷ r.scheduler ∷ []))
+    ++ (handle_as r.handle
+    ++ filled_in (ascii " priority=A gate=N max-sdu=Z oversize-block=N meter=L scheduler=L\n") (r.priority ∷ r.gate ∷ r.max_sdu ∷ bool_byte r.oversize_block ∷ r.meter ∷ r.scheduler ∷ []))
     ≡ line_of (Filter r)
 unfolding line_of filled_in shown_as
-filter_parts r = ap (λ (z : List ℕ). ascii "filter id=" ++ z) (append_assoc (digits_of r.id) (label_of "handle") _)
+filter_parts r = rw (← handle_shown r.handle) (ap (λ (z : List ℕ). ascii "filter id=" ++ z) (append_assoc (digits_of r.id) (label_of "handle") _))

@@ -27,6 +27,7 @@ pub struct Meter {
 }
 
 // What becomes of a frame. `meter_number_of` in specs/ has document 01's number for each case.
+// Kept: a refusal is an outcome and no Err: `colour_of` and the theorem `meter_refuses_none` speak of it so.
 #[derive(Clone, Copy)]
 pub enum Outcome {
     Green,
@@ -50,6 +51,7 @@ pub struct Metered {
 impl Meter {
     // A meter whose buckets are full. A burst above 1,000,000 octets is out of range, and counts as that here.
     // Ruled out: empty buckets; the committed bucket at the excess burst.
+    // Kept: a parameter for each field of a meter's record, as `fresh_meter_of` has them: a struct of the eight would be a second record.
     pub fn fresh(
         cir: Rate,
         cbs: Octets,

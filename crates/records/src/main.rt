@@ -2,7 +2,7 @@
 // The input is read in pieces: a record that is cut at the end of a piece waits there for its rest.
 #![tactic(auto)]
 
-ghost use Rattle.std.specs.Prelude.{◌≡◌, ◌+◌, ◌≤◌, length, IfOk};
+ghost use Rattle.std.specs.Prelude.{◌+◌, ◌≤◌, length};
 ghost use Rattle.lines.specs.Room.{record_room};
 
 use pieces::Failure;
@@ -80,7 +80,7 @@ impl Printer {
     // One line. The page is written once half of it is filled.
     fn print<W: Write>(&mut self, output: &mut W, r: Record) -> Result<(), Failure> {
         lines::put_line(&mut self.page, r);
-        if self.page.len() < HALF {
+        if self.page.room() > HALF {
             return Ok(());
         }
         let written = pieces::write(output, self.page.text());
@@ -97,10 +97,15 @@ fn print_all<R: Read, W: Write>(input: &mut R, output: &mut W) -> Result<(), Fai
         started: false,
     };
     let end = printer.print_all(input, output);
+    let Printer {
+        mut page,
+        offset,
+        started: _,
+    } = printer;
     if let Err(Stop::Refused(why)) = end {
-        printer.page.put_refused(why, printer.offset);
+        page.put_refused(why, offset);
     }
-    pieces::write(output, printer.page.text())?;
+    pieces::write(output, page.text())?;
     match end {
         Err(Stop::Failed(failure)) => Err(failure),
         _ => Ok(()),

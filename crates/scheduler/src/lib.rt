@@ -20,6 +20,7 @@ pub struct Scheduler {
 }
 
 // What becomes of a frame. `scheduler_number_of` in specs/ has document 01's number for each case.
+// Kept: a refusal is an outcome and no Err: `scheduler_step_of` and the theorem `scheduler_refuses_none` speak of it so.
 #[derive(Clone, Copy)]
 pub enum Outcome {
     // Eligible at this time, in ns.
