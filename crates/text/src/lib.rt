@@ -18,21 +18,19 @@ use verdict::{Drop, Pass};
 pub const LINE: usize = 64;
 
 // A buffer of N octets that is filled from its front.
+#[derive(Drop)]
 pub struct Page<const N: usize> {
-    octets: [u8; N],
-    // The place of the next octet.
-    filled: usize,
+    pub octets: [u8; N],
+    // The place of the next octet; there is none from N on.
+    pub filled: usize,
 }
 
 impl<const N: usize> Model for Page<N> {
-    ghost use Rattle.std.specs.Prelude.{◌≤◌};
     ghost use Rattle.text.specs.Meaning.{page, Page as Filling};
 
     ghost Value = { Filling };
 
     ghost view = { λ p. page p.octets p.filled };
-
-    ghost invariant = { λ p. p.filled ≤ N };
 }
 
 impl<const N: usize> Page<N> {
@@ -52,7 +50,7 @@ impl<const N: usize> Page<N> {
     pub fn text(&self) -> &[u8]
         ensures { result.now ≡ take self.now.filled self.now.octets }
     {
-        &self.octets[..self.filled]
+        &self.octets[..self.filled.min(N)]
     }
 
     // How many octets are put.
@@ -68,7 +66,7 @@ impl<const N: usize> Page<N> {
     pub fn room(&self) -> usize
         ensures { result ≡ length self.now.octets - self.now.filled }
     {
-        N - self.filled
+        N.saturating_sub(self.filled)
     }
 
     // From its front again.
@@ -89,7 +87,6 @@ impl<const N: usize> Page<N> {
             self.filled += 1;
         }
     }
-
 }
 
 // Kept: `write!` to a page, as an `fmt::Write`, says nothing of the page where it answers an Err, and no put can fail: tried, `returns` of put_end stays open.
