@@ -13,9 +13,10 @@ use bank::Bank;
 use record::{ArrivalRecord, FilterRecord};
 
 // A row, as document 01's kind 2 has it but for the identifier, which is the row's place. All numbers: whatever a caller leaves in the
-// table is a row. A row of zeros is empty.
+// table is a row. A row of zeros, the default, is empty.
+// Ruled out of the default: a row that is used; a row with a handle.
 #[repr(C)]
-#[derive(Clone, Copy)]
+#[derive(Clone, Copy, Default)]
 pub struct Filter {
     pub handle: u32,
     // In octets; 0 is none.
@@ -75,7 +76,7 @@ impl From<ArrivalRecord> for Key {
 
 // The row that a frame uses, and its place: the first that fits the frame and counts. Whether it counts is asked last, since most rows are
 // ruled out before.
-// Ruled out: the last row that answers; a row that names a missing gate used by a frame.
+// Ruled out: a row for any handle passed over; a row that names a missing gate used by a frame; the last row that answers.
 pub fn matching(table: &[Filter], bank: &Bank, key: Key) -> Option<(usize, Filter)>
     ensures { result ≡ search_of (rows_of bank.now) (of_every_place Fits key) table.now }
 {
@@ -132,26 +133,6 @@ pub fn put_row(table: &mut [Filter], place: usize, row: Filter)
     }
 }
 
-// The empty row.
-// Ruled out: a row that is used; a row with a handle.
-impl Default for Filter {
-    ghost is_default = { λ row. row ≡ no_row };
-
-    fn default() -> Filter {
-        Filter {
-            handle: 0,
-            max_sdu: 0,
-            used: 0,
-            any_handle: 0,
-            priority: 0,
-            gate: 0,
-            oversize_block: 0,
-            meter: 0,
-            scheduler: 0,
-        }
-    }
-}
-
 impl Filter {
     // Whether handle and priority of a frame match the row's. The handle alone rules most rows out, after two loads each.
     // Ruled out: any-handle taken for handle 0; priority 8 taken for a priority.
@@ -159,12 +140,14 @@ impl Filter {
     pub fn fits(&self, key: Key) -> bool
         ensures { result ≡ fits_of key self.now }
     {
-        (self.any_handle == 1 || self.handle == key.handle)
+        (self.handle == key.handle || self.any_handle == 1)
             && (self.priority == 8 || self.priority == key.priority)
     }
 
     // Whether a row counts after start; any other counts as empty.
     // Ruled out: a row that names a missing meter counting; a max SDU that the burst just holds refused.
+    // Cold, since a search asks it of few rows: so the loop over the others is tight.
+    #[cold]
     #[tactic(auto, unfolding(crate::specs::Meaning::counts_of))]
     pub fn counts(&self, bank: &Bank) -> bool
         ensures { result ≡ counts_of (rows_of bank.now) self.now }
