@@ -121,7 +121,11 @@ fn put_form<const N: usize>(page: &mut Page<N>, form: &[u8], values: &[u64])
 {
     let mut left = values.iter();
     for c in form {
-        let value = if c.is_ascii_uppercase() { left.next() } else { None };
+        let value = if c.is_ascii_uppercase() {
+            left.next()
+        } else {
+            None
+        };
         match value {
             Some(value) => put_value(page, *c, *value),
             None => page.put_octet(*c),

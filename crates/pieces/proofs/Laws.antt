@@ -1,5 +1,5 @@
 -- What is kept of a piece, and what is read behind it. Assumes nothing.
-use Rattle.std.specs.Prelude.{ℕ, ◌+◌, ◌-◌, ◌≤◌, min, ◌≡◌, List, [], ◌++◌, length, take, drop}
+use Rattle.std.specs.Prelude.{ℕ, ◌+◌, ◌-◌, ◌≤◌, min, ◌≡◌, List, ◌++◌, length, take, drop}
 use Rattle.std.specs.List.{copy_within}
 use Rattle.std.proofs.Common.{sym, ap, ◌∙◌, zero-add, arith, length-take, length-take-le, length-drop, length-append, take-take, take-add}
 use Rattle.std.proofs.Math.Seq.{slice}
@@ -39,7 +39,7 @@ module _ (before after : List ℕ) (kept at : ℕ) (e : at ≡ min kept (length 
     there =
         take-add at n after
         ∙ ap (λ (xs : List ℕ). xs ++ take n (drop at after))
-          (ap (take at) is ∙ take-append-le at (take at before) (new ++ post) (omega (arith, length-take at before)) ∙ take-take at at before (omega arith) ∙ as_far);
+        (ap (take at) is ∙ take-append-le at (take at before) (new ++ post) (omega (arith, length-take at before)) ∙ take-take at at before (omega arith) ∙ as_far);
     within = omega (arith, ap length is, length-append (take at before) (new ++ post), length-append new post, length-take at before);
   }
 

@@ -1,5 +1,5 @@
 -- A record that is read from a place of a piece on. Assumes nothing.
-use Rattle.std.proofs.Common.{◌≡◌, ℕ, ◌+◌, ◌-◌, ◌≤◌, Bool, Ok, List, length, take, drop, arith, length-drop, length-take}
+use Rattle.std.proofs.Common.{◌≡◌, ℕ, ◌-◌, ◌≤◌, Bool, Ok, List, length, take, drop, arith, length-drop, length-take}
 use Rattle.record.specs.declared.Record.{Record}
 use Rattle.record.specs.Meaning.{read_of}
 use Rattle.record.proofs.Laws.{read_uses}

@@ -1,5 +1,5 @@
 -- A run over a piece of input: one record after another, up to a refusal or to where the page is nearly full.
-use Rattle.std.specs.Prelude.{ℕ, zero, suc, ◌+◌, ◌%◌, ◌^◌, Bool, true, false, cond, Option, Some, None, List, length, drop, nat_le}
+use Rattle.std.specs.Prelude.{ℕ, zero, suc, ◌+◌, ◌%◌, ◌^◌, Bool, true, false, cond, Some, None, List, length, drop, nat_le}
 use Rattle.record.specs.declared.Refusal.{Refusal}
 use Rattle.bank.specs.Meaning.{Rows}
 use Rattle.filter.specs.declared.Filter.{Filter}

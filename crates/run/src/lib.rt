@@ -89,11 +89,7 @@ fn rest(input: &[u8], at: usize) -> &[u8]
 
 // The answer to a record is told, and the run is one record further. A refusal ends it.
 #[tactic(auto, unfolding(crate::specs::Meaning::printed_by))]
-fn tell<const N: usize>(
-    page: &mut Page<N>,
-    p: Progress,
-    answer: Result<Taken, Refusal>,
-) -> Progress
+fn tell<const N: usize>(page: &mut Page<N>, p: Progress, answer: Result<Taken, Refusal>) -> Progress
     ensures { printed page.new result ≡ printed_of page.old p (answer_of answer) }
 {
     let taken = match answer {

@@ -51,8 +51,8 @@ module _ (bank : Rows) (lists buffer : List ℕ) (w : Page) where
 
 module _ (b : Bridge) (s : Stream) (bank : Rows) (lists after : List ℕ) (st : Stands b s bank lists) where
   -- nothing more is taken
-  pub stands_still : length after ≡ length s.buffer → take s.kept after ≡ take s.kept s.buffer → Stands b (record s { buffer = after }) bank lists
-  stands_still same stays = record {
+  pub stands_still : (w : Page) → length after ≡ length s.buffer → take s.kept after ≡ take s.kept s.buffer → Stands b (record s { buffer = after; page = w }) bank lists
+  stands_still w same stays = record {
     input = st.input;
     answers = st.answers;
     front = subst (λ (xs : List ℕ). Front b st.input st.answers (bridge s.table bank lists) xs) (sym stays) st.front;
@@ -65,8 +65,8 @@ module _ (b : Bridge) (s : Stream) (bank : Rows) (lists after : List ℕ) (st : 
   }
 
   module _ (end : ℕ) (f : Fills s.buffer s.kept after end) where
-    pub stands_filled : length after ≡ length s.buffer → Stands b (record s { buffer = after }) bank lists
-    stands_filled same = stands_still same (kept_stays s.buffer after s.kept end f st.within)
+    pub stands_filled : (w : Page) → length after ≡ length s.buffer → Stands b (record s { buffer = after; page = w }) bank lists
+    stands_filled w same = stands_still w same (kept_stays s.buffer after s.kept end f st.within)
 
     -- a run over the piece
     module _ (small : end < 2 ^ 64) (w : Page) (table : List Filter) (bank' : Rows) (lists' : List ℕ) (w' : Page) (p : Progress)

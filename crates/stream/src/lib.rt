@@ -122,7 +122,7 @@ struct Stream {
 }
 
 impl Stream {
-    // A stream that goes on after all its turns is given up as one that cannot be read.
+    // Piece by piece, the lines written as the pieces are done. A stream that goes on after all its turns is given up as one that cannot be read.
     fn pieces<R: Read, W: Write>(
         &mut self,
         input: &mut R,
@@ -134,31 +134,32 @@ impl Stream {
         ensures over { result ≡ Ok tt → self.new.progress.refusal ≡ None → self.new.kept ≡ 0 }
     {
         for _ in 0..u64::MAX {
-            if !self.piece(input, output, bank, lists)? {
+            let more = self.piece(input, bank, lists)?;
+            pieces::write(output, self.page.text())?;
+            if !more {
                 return Ok(());
             }
         }
         Err(Failure::Input)
     }
 
-    // One piece: read where a record is cut or no octet is left, run, keep what is not whole, write. Answers whether the stream goes on:
-    // it has come to its end where a refusal has stopped it or no octet is left.
-    fn piece<R: Read, W: Write>(
+    // One piece: read where a record is cut or no octet is left, run, keep what is not whole. Answers whether the stream goes on: it has come
+    // to its end where a refusal has stopped it or no octet is left.
+    fn piece<R: Read>(
         &mut self,
         input: &mut R,
-        output: &mut W,
         bank: &mut Bank,
         lists: &mut Lists,
     ) -> Result<bool, Failure>
         ensures stands { (b : Bridge) → Stands b self.old (rows_of bank.old) lists.old → Stands b self.new (rows_of bank.new) lists.new }
         ensures over { result ≡ Ok false → self.new.progress.refusal ≡ None → self.new.kept ≡ 0 }
     {
+        self.page.clear();
         let starved = self.progress.refusal.is_some() || self.kept == 0;
         let end = pieces::fill(input, &mut self.buffer, self.kept, starved)?;
         if starved && end <= self.kept {
             return Ok(false);
         }
-        self.page.clear();
         let from = run::again(self.progress);
         let p = run::run(
             &mut self.table,
@@ -172,7 +173,6 @@ impl Stream {
         self.progress = p;
         self.kept = left;
         self.octets = self.octets.wrapping_add((end - left) as u64);
-        pieces::write(output, self.page.text())?;
         Ok(matches!(p.refusal, None | Some(Refusal::CutShort)))
     }
 }

@@ -12,24 +12,24 @@ loop-c-preserved g c =
     let l = c.loop-c-test.true in
     let left = c.loop-c.left.rest.now in
     elim c.if-is_ascii_uppercase.branch [
-      then-is_ascii_uppercase w ↦
-      elim c.match-value.branch [
-        in-Some v ↦
-        let s = rw (sym w.value-is ∙ v.in-Some.is) at w.next-value.ensures.steps in
-        let e = put_mark page form i l v.in-Some.value.now w.next-value.new.self.rest.now (sym c.is_ascii_uppercase.ensures.value ∙ w.if-is_ascii_uppercase.true) in
-        cc
-        | in-None v ↦
-        let s = rw (sym w.value-is ∙ v.in-None.is) at w.next-value.ensures.steps in
-        let e = put_rest page form i l left s.0 in
-        cc
-      ]
+      | then-is_ascii_uppercase w ↦
+          elim c.match-value.branch [
+            | in-Some v ↦
+                let s = rw (sym w.value-is ∙ v.in-Some.is) at w.next-value.ensures.steps in
+                let e = put_mark page form i l v.in-Some.value.now w.next-value.new.self.rest.now (sym c.is_ascii_uppercase.ensures.value ∙ w.if-is_ascii_uppercase.true) in
+                cc
+            | in-None v ↦
+                let s = rw (sym w.value-is ∙ v.in-None.is) at w.next-value.ensures.steps in
+                let e = put_rest page form i l left s.0 in
+                cc
+          ]
       | else-is_ascii_uppercase w ↦
-      elim c.match-value.branch [
-        in-Some v ↦ absurd cc
-        | in-None v ↦
-        let e = put_text page form i l left (sym c.is_ascii_uppercase.ensures.value ∙ w.if-is_ascii_uppercase.false) in
-        cc
-      ]
+          elim c.match-value.branch [
+            | in-Some v ↦ absurd cc
+            | in-None v ↦
+                let e = put_text page form i l left (sym c.is_ascii_uppercase.ensures.value ∙ w.if-is_ascii_uppercase.false) in
+                cc
+          ]
     ]
 
 pub returns : goal.returns

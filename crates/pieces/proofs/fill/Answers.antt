@@ -1,5 +1,5 @@
 -- What the read has put behind the octets that are kept.
-use Rattle.std.proofs.Common.{◌≡◌, ◌≤◌, min, length, arith, refl}
+use Rattle.std.proofs.Common.{arith, refl}
 use Rattle.pieces.proofs.Laws.{fills_read}
 use Rattle.pieces.proofs.fill.Goals as goal
 

@@ -1,5 +1,5 @@
 -- The end stays as it was; or a write that has failed is said.
-use Rattle.std.proofs.Common.{◌≡◌, Some, None, sym, subst, ◌∙◌}
+use Rattle.std.proofs.Common.{Some, sym, subst, ◌∙◌}
 use Rattle.pieces.specs.declared.Failure.{Failure}
 use Rattle.stream.specs.Meaning.{Reported, as_it_was, unwritten}
 use Rattle.stream.proofs.Laws.{none_by}

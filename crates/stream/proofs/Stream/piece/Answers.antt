@@ -1,5 +1,5 @@
 -- Nothing is taken where the read fails or gives nothing; else the run takes the stream on.
-use Rattle.std.proofs.Common.{◌≡◌, ℕ, ◌^◌, ◌<◌, ap, ◌∙◌, refl, arith}
+use Rattle.std.proofs.Common.{ap, ◌∙◌, refl, arith}
 use Rattle.pieces.specs.Meaning.{Kept}
 use Rattle.pieces.proofs.Laws.{waiting_at_most}
 use Rattle.run.specs.Meaning.{piece_run_of}
@@ -7,18 +7,14 @@ use Rattle.stream.proofs.Laws.{stands_still, stands_filled, stands_on}
 use Rattle.stream.proofs.Stream.piece.Goals as goal
 
 pub returns-in_err-end-clause-stands : goal.returns-in_err-end-clause-stands
-returns-in_err-end-clause-stands g c b st = stands_still b c.args.self.now _ _ c.fill.new.buf st c.fill.auto.buf c.in_err-end.ensures
+returns-in_err-end-clause-stands g c b st = stands_still b c.args.self.now _ _ c.fill.new.buf st _ c.fill.auto.buf c.in_err-end.ensures
 
 pub returns-then-end-self-clause-stands : goal.returns-then-end-self-clause-stands
-returns-then-end-self-clause-stands g c b st = stands_filled b c.args.self.now _ _ c.fill.new.buf st _ c.in_ok-end.ensures c.fill.auto.buf
+returns-then-end-self-clause-stands g c b st = stands_filled b c.args.self.now _ _ c.fill.new.buf st _ c.in_ok-end.ensures _ c.fill.auto.buf
 
 -- what is taken is what does not wait
 pub overflow_sub-self : goal.overflow_sub-self
 overflow_sub-self g c = rw (ap (λ (k : Kept). k.waiting) c.keep-left.ensures) (waiting_at_most _ _ _)
-
-pub returns-in_err-write-clause-stands : goal.returns-in_err-write-clause-stands
-returns-in_err-write-clause-stands g c b st =
-    stands_on b c.args.self.now _ _ c.fill.new.buf st _ c.in_ok-end.ensures (omega arith) _ _ _ _ _ _ (c.run-p.ensures ∙ ap (piece_run_of _ _ _ _) c.again-from.ensures) _ _ c.keep-left.ensures _ refl
 
 pub returns-in_default : goal.returns-in_default
 returns-in_default g c = record {
