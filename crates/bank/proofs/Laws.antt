@@ -1,7 +1,7 @@
 -- The laws of the tables. For each way of writing: the view of what was written gives it back (`-same`), and what it does not write is
 -- as before for every index (`-keeps-`). For each view: a store into any other row leaves it (`-frame`); that the rows of two
 -- tables are never the same is plain from their numbers.
-use Rattle.std.specs.Prelude.{◌≡◌, ℕ, zero, suc, ◌+◌, ◌*◌, ◌%◌, ◌^◌, ◌<◌, ◌≤◌, min, Bool, true, false, ◌≢◌, List, length, slice_set, refl}
+use Rattle.std.specs.Prelude.{◌≡◌, ℕ, zero, suc, ◌+◌, ◌*◌, ◌%◌, ◌^◌, ◌<◌, ◌≤◌, min, Bool, true, false, ◌≢◌, List, length, slice_index, slice_set, refl}
 use Rattle.std.proofs.Common.{ap, ◌∙◌, arith}
 use mir.Val.{bool_byte}
 use Rattle.sizes.specs.Meaning.{entry_count, group_count, row_words}
@@ -13,7 +13,7 @@ use Rattle.bank.specs.declared.Port.{Port}
 use Rattle.bank.specs.declared.Counter.{Counter}
 use Rattle.bank.specs.declared.Group.{Group}
 use Rattle.bank.specs.Meaning.{Rows, rows_in, with_row, component_row, port_row, counters_row, gate_row, gate_state_row, meter_row, meter_state_row, group_row, scheduler_row, word, row_with, with_word, is_set, component_in, component, with_classes, with_clock, with_overhead, port_in, row_of_port, port, with_port, with_discarded, counters_in, counters, counter_place, one_more, bump, with_oversize, gate_in, gate, gate_is_set, entries, row_of_gate, with_gate, with_entries, row_of_gate_state, with_gate_state, meter_in, meter, meter_is_set, row_of_meter, row_of_meter_state, with_meter, with_meter_state, group_in, row_of_group, group, with_group, with_group_last, scheduler_in, scheduler, scheduler_is_set, scheduler_group, burst, row_of_scheduler, with_scheduler, row_of_scheduler_state, with_scheduler_state}
-use Rattle.bank.proofs.Rows.{row_same, row_other, row_kept, cell_put}
+use Rattle.bank.proofs.Rows.{row_same, row_other, row_kept, cell_put, cell_get}
 
 -- ---- words
 
@@ -75,6 +75,13 @@ bump_same s f c = row_same s (counters_row f) _
 
 pub oversize_same : (s : Rows) (f : ℕ) (flag : Bool) → (counters (with_oversize s f flag) f).oversize ≡ flag
 oversize_same s f flag = ap (λ (row : List ℕ). (counters_in row).oversize) (row_same s (counters_row f) (row_with (s (counters_row f)) 6 (bool_byte flag))) ∙ is_set_back flag
+
+-- as the code does it: the word is read, and one more is stored
+pub count_put : (ws : List ℕ) (f k v : ℕ) (c : Counter) (t : Rows) → k ≡ counter_place c → k < row_words → v ≡ one_more (slice_index ws (counters_row f * row_words + k)) → t ≡ with_word (rows_in ws) (counters_row f) k v → t ≡ bump (rows_in ws) f c
+count_put ws f k v c t ek in_row ev et =
+    et
+    ∙ ap (with_word (rows_in ws) (counters_row f) k) (ev ∙ ap one_more (cell_get ws (counters_row f) k in_row))
+    ∙ ap (λ (n : ℕ). with_word (rows_in ws) (counters_row f) n (one_more (word (rows_in ws (counters_row f)) n))) ek
 
 pub counters_frame : (s : Rows) (i r : ℕ) (vs : List ℕ) → counters_row i ≢ r → counters (with_row s r vs) i ≡ counters s i
 counters_frame s i r vs h = ap counters_in (row_other s r vs (counters_row i) h)

@@ -81,6 +81,9 @@ module _ (ws : List ℕ) (r k v : ℕ) (in_row : k < row_words) (fits : r * row_
   pub cell_put : rows_in (slice_set ws (r * row_words + k) v) ≡ with_row (rows_in ws) r (slice_set (rows_in ws r) k v)
   cell_put = fun_ext (λ q. at_cell q (ℕ_discrete q r))
 
+pub cell_get : (ws : List ℕ) (r k : ℕ) → k < row_words → slice_index ws (r * row_words + k) ≡ slice_index (rows_in ws r) k
+cell_get ws r k h = ap (λ (x : ℕ). slice_index ws x) (omega arith) ∙ sym (get_d_load ws (r * row_words) 0 row_words k h)
+
 -- the rows tell the words: nothing is left out of the state
 word_of_row : (ws : List ℕ) (i : ℕ) → slice_index ws i ≡ slice_index (rows_in ws (i / row_words)) (i % row_words)
 word_of_row ws i = ap (λ (x : ℕ). slice_index ws x) (omega arith) ∙ sym (get_d_load ws (i / row_words * row_words) 0 row_words (i % row_words) (omega arith))

@@ -10,7 +10,7 @@ use Rattle.bucket.specs.declared.Octets.{Octets}
 use Rattle.frame.specs.Meaning.{length_of}
 use Rattle.bank.specs.Meaning.{Rows, gate_is_set, meter_is_set, scheduler_is_set, burst, component}
 use Rattle.filter.specs.declared.Filter.{Filter}
-use Rattle.filter.specs.Meaning.{no_row, row_in_range, is_filter_of, names_missing, exceeds_burst, counts_of, fits_of, Asks, Fits, Missing, ExceedsBurst, Question, asked, row_answers}
+use Rattle.filter.specs.Meaning.{no_row, row_in_range, is_filter_of, names_missing, exceeds_burst, counts_of, fits_of, Asks, Fits, Missing, ExceedsBurst, Any, Question, asked, row_answers}
 
 -- a number that names something, and what is then tested of it
 named : (n : ℕ) (t : Bool) → n ≢ 255 → (not (eqb n 255) && t) ≡ false → t ≡ false
@@ -107,19 +107,27 @@ module _ (s : Rows) (f : Filter) where
   unfolding row_answers
   answers_asked q a e = ap (λ (k : Asks). asked k s q.key f) e
 
--- a row that is no filter answers none, nor does the empty row
-pub answers_no_filter : (s : Rows) (q : Question) (f : Filter) → is_filter_of f ≡ false → row_answers s q f ≡ false
-unfolding row_answers counts_of
-answers_no_filter s q f e = by_asks q.asks
-  where
-    by_asks : (a : Asks) → asked a s q.key f ≡ false
-    by_asks Fits = ap (λ (t : Bool). fits_of q.key f && (t && not (names_missing s f) && not (exceeds_burst s f))) e ∙ and_false (fits_of q.key f)
-    by_asks Missing = ap (λ (t : Bool). t && names_missing s f) e
-    by_asks ExceedsBurst = ap (λ (t : Bool). t && exceeds_burst s f) e
+-- a question that asks something of a row
+abbrev pub Asking : Asks → Type 0
+Asking Fits = Unit {0}
+Asking Missing = Unit {0}
+Asking ExceedsBurst = Unit {0}
+Asking Any = ⊥
 
-pub answers_empty : (s : Rows) (q : Question) → row_answers s q no_row ≡ false
+-- a row that is no filter answers none, nor does the empty row
+pub answers_no_filter : (s : Rows) (q : Question) (f : Filter) → Asking q.asks → is_filter_of f ≡ false → row_answers s q f ≡ false
+unfolding row_answers counts_of
+answers_no_filter s q f asks e = by_asks q.asks asks
+  where
+    by_asks : (a : Asks) → Asking a → asked a s q.key f ≡ false
+    by_asks Fits h = ap (λ (t : Bool). fits_of q.key f && (t && not (names_missing s f) && not (exceeds_burst s f))) e ∙ and_false (fits_of q.key f)
+    by_asks Missing h = ap (λ (t : Bool). t && names_missing s f) e
+    by_asks ExceedsBurst h = ap (λ (t : Bool). t && exceeds_burst s f) e
+    by_asks Any h = absurd h
+
+pub answers_empty : (s : Rows) (q : Question) → Asking q.asks → row_answers s q no_row ≡ false
 unfolding is_filter_of
-answers_empty s q = answers_no_filter s q no_row refl
+answers_empty s q asks = answers_no_filter s q no_row asks refl
 
 -- a row that doesn't count is used by no frame
 pub answers_spoiled : (s : Rows) (q : Question) (f : Filter) → q.asks ≡ Fits → counts_of s f ≡ false → row_answers s q f ≡ false
@@ -155,3 +163,4 @@ module _ (s s' : Rows) (same : SameParts s s') (f : Filter) where
       by_asks Fits = ap (λ (t : Bool). fits_of q.key f && t) counts_same
       by_asks Missing = ap (λ (t : Bool). is_filter_of f && t) missing_same
       by_asks ExceedsBurst = ap (λ (t : Bool). is_filter_of f && t) exceeds_burst_same
+      by_asks Any = refl

@@ -1,6 +1,6 @@
 -- The search: what it finds, and what it doesn't depend on.
 use Rattle.std.specs.Prelude.{ℕ, zero, suc, ◌+◌, ◌-◌, ◌≤◌, ◌<◌, Bool, true, false, cond, ◌≡◌, List, ltb, length, get_or, take, set, min, Some, None}
-use Rattle.std.proofs.Common.{true≢false, sym, ap, ◌∙◌, arith, ltb-true, ltb-false, get_or-set_same, get_or-set_other}
+use Rattle.std.proofs.Common.{true≢false, sym, ap, subst, ◌∙◌, arith, ltb-true, ltb-false, get_or-set_same, get_or-set_other}
 use Rattle.std.proofs.Math.Path.{refl}
 use Rattle.std.proofs.lemmas.List.{get_or-take, length-take}
 use Rattle.std.proofs.lemmas.Option.{some_pair_parts}
@@ -11,9 +11,9 @@ use Rattle.sizes.specs.Meaning.{filter_count}
 use Rattle.bank.specs.Meaning.{Rows}
 use Rattle.filter.specs.declared.Filter.{Filter}
 use Rattle.filter.specs.declared.Key.{Key}
-use Rattle.filter.specs.Meaning.{no_row, is_filter_of, counts_of, row_of, Asks, Fits, Question, of_every_place, row_answers, first_found, search_of}
+use Rattle.filter.specs.Meaning.{no_row, is_filter_of, counts_of, row_of, Asks, Fits, Any, Question, of_every_place, row_answers, first_found, search_from, search_of}
 use Rattle.filter.specs.Search.{first_of_all}
-use Rattle.filter.proofs.Laws.{SameParts, answers_same, answers_empty, answers_spoiled, answers_no_filter}
+use Rattle.filter.proofs.Laws.{SameParts, Asking, answers_asked, answers_same, answers_empty, answers_spoiled, answers_no_filter}
 
 -- ---- the table as far as a search goes
 
@@ -49,15 +49,12 @@ module _ (test : Filter → Bool) (rows : List Filter) where
       first_next end i (omega (arith, h)) (none i (omega arith) (omega arith)) ∙ first_past end (i + 1) n (omega (arith, h)) (λ j l u. none j (omega (arith, l)) (omega (arith, u)))
       ∙ ap (λ (k : ℕ). first_found test rows k (end - k)) (omega arith)
 
-  -- the first that passes is found
-  first_only : (end from i : ℕ) → from ≤ i → i < end → test (row_of rows i) ≡ true → ((j : ℕ) → from ≤ j → j < i → test (row_of rows j) ≡ false) → first_found test rows from (end - from) ≡ Some (i, row_of rows i)
-  first_only end from i low high hits none =
-      first_past end from (i - from) (omega (arith, low, high)) (λ j l u. none j l (omega (arith, u, low)))
-      ∙ ap (λ (k : ℕ). first_found test rows k (end - k)) (omega (arith, low)) ∙ first_hit end i high hits
-
+  -- the first place of all
   pub first_at : (i : ℕ) → i < filter_count → test (row_of rows i) ≡ true → ((k : ℕ) → k < i → test (row_of rows k) ≡ false) → first_of_all test rows ≡ Some (i, row_of rows i)
   unfolding first_of_all
-  first_at i high hits none = first_only filter_count 0 i (omega arith) high hits (λ j l u. none j u)
+  first_at i h hits none =
+      first_past filter_count 0 i (omega (arith, h)) (λ j l u. none j (omega (arith, u)))
+      ∙ ap (λ (k : ℕ). first_found test rows k (filter_count - k)) (omega arith) ∙ first_hit filter_count i h hits
 
   -- none, where no row of the table passes nor the empty one
   pub first_nowhere : (i : ℕ) → min (length rows) filter_count ≤ i → ((k : ℕ) → k < i → test (row_of rows k) ≡ false) → test no_row ≡ false → first_of_all test rows ≡ None
@@ -125,9 +122,27 @@ first_alike test test' rows rows' tests same i (suc n) =
     by_test true h rest = ap (λ (row : Filter). Some (i, row)) (same i h)
     by_test false h rest = rest
 
--- ---- the search finds the first row that answers, and nothing else
+-- ---- the search, a place at a time
 
 module _ (s : Rows) (q : Question) (rows : List Filter) where
+  pub search_begins : search_from s q rows q.from ≡ search_of s q rows
+  unfolding search_of
+  search_begins = refl
+
+  pub search_hit : (i : ℕ) → i < q.to → row_answers s q (row_of rows i) ≡ true → search_from s q rows i ≡ Some (i, row_of rows i)
+  search_hit = first_hit (row_answers s q) rows q.to
+
+  pub search_next : (i : ℕ) → i < q.to → row_answers s q (row_of rows i) ≡ false → search_from s q rows i ≡ search_from s q rows (i + 1)
+  search_next = first_next (row_answers s q) rows q.to
+
+  pub search_over : (i : ℕ) → q.to ≤ i → search_from s q rows i ≡ None
+  search_over = first_over (row_answers s q) rows q.to
+
+  pub search_past : (i n : ℕ) → i + n ≤ q.to → ((j : ℕ) → i ≤ j → j < i + n → row_answers s q (row_of rows j) ≡ false) → search_from s q rows i ≡ search_from s q rows (i + n)
+  search_past = first_past (row_answers s q) rows q.to
+
+  -- ---- it finds the first row that answers, and nothing else
+
   -- how many places are asked
   asks_to : (i k : ℕ) → i ≤ k → k < i + (q.to - i) → k < q.to
   asks_to i k l u = omega (arith, l, u)
@@ -144,8 +159,16 @@ module _ (s : Rows) (q : Question) (rows : List Filter) where
 
   -- and so no other place is found
   pub search_only : (i : ℕ) → q.from ≤ i → i < q.to → row_answers s q (row_of rows i) ≡ true → ((j : ℕ) → q.from ≤ j → j < i → row_answers s q (row_of rows j) ≡ false) → search_of s q rows ≡ Some (i, row_of rows i)
-  unfolding search_of
-  search_only = first_only (row_answers s q) rows q.to q.from
+  search_only i low high hits none =
+      sym search_begins ∙ search_past q.from (i - q.from) (omega (arith, low, high)) (λ j l u. none j l (omega (arith, u, low)))
+      ∙ ap (search_from s q rows) (reached q.from low) ∙ search_hit i high hits
+    where
+      reached : (k : ℕ) → k ≤ i → k + (i - k) ≡ i
+      reached k h = omega (arith, h)
+
+  -- one place, of which nothing is asked
+  pub search_one : q.asks ≡ Any → q.to ≡ q.from + 1 → search_of s q rows ≡ Some (q.from, row_of rows q.from)
+  search_one asks to = sym search_begins ∙ search_hit q.from (omega (arith, to)) (answers_asked s (row_of rows q.from) q Any asks)
 
 -- the search of every place, as the code does it
 pub search_whole : (s : Rows) (rows : List Filter) (asks : Asks) (key : Key) → first_of_all (row_answers s (of_every_place asks key)) rows ≡ search_of s (of_every_place asks key) rows
@@ -171,13 +194,13 @@ row_emptied rows i = by_test (ltb i (length rows)) refl
     by_test true e = get_or-set_same rows i no_row no_row (ltb-true i (length rows) e)
     by_test false e = ap (λ (l : List Filter). row_of l i) (set_out rows i no_row (ltb-false i (length rows) e)) ∙ get_or-eq_default rows no_row (ltb-false i (length rows) e)
 
-emptied : (s : Rows) (q : Question) (rows : List Filter) (i : ℕ) → row_answers s q (row_of rows i) ≡ false → search_of s q (set rows i no_row) ≡ search_of s q rows
+emptied : (s : Rows) (q : Question) (rows : List Filter) (i : ℕ) → Asking q.asks → row_answers s q (row_of rows i) ≡ false → search_of s q (set rows i no_row) ≡ search_of s q rows
 unfolding search_of
-emptied s q rows i e = sym (first_alike (row_answers s q) (row_answers s q) rows (set rows i no_row) (λ j. answers_at j (ℕ_discrete j i)) (λ j h. row_there j h (ℕ_discrete j i)) q.from (q.to - q.from))
+emptied s q rows i asks e = sym (first_alike (row_answers s q) (row_answers s q) rows (set rows i no_row) (λ j. answers_at j (ℕ_discrete j i)) (λ j h. row_there j h (ℕ_discrete j i)) q.from (q.to - q.from))
   where
     answers_at : (j : ℕ) → Dec (j ≡ i) → row_answers s q (row_of rows j) ≡ row_answers s q (row_of (set rows i no_row) j)
     answers_at j (yes p) =
-        ap (λ (k : ℕ). row_answers s q (row_of rows k)) p ∙ e ∙ sym (answers_empty s q) ∙ ap (row_answers s q) (sym (row_emptied rows i)) ∙ ap (λ (k : ℕ). row_answers s q (row_of (set rows i no_row) k)) (sym p)
+        ap (λ (k : ℕ). row_answers s q (row_of rows k)) p ∙ e ∙ sym (answers_empty s q asks) ∙ ap (row_answers s q) (sym (row_emptied rows i)) ∙ ap (λ (k : ℕ). row_answers s q (row_of (set rows i no_row) k)) (sym p)
     answers_at j (no p) = ap (row_answers s q) (sym (get_or-set_other rows i j no_row no_row p))
 
     row_there : (j : ℕ) → row_answers s q (row_of rows j) ≡ true → Dec (j ≡ i) → row_of rows j ≡ row_of (set rows i no_row) j
@@ -186,8 +209,8 @@ emptied s q rows i e = sym (first_alike (row_answers s q) (row_answers s q) rows
 
 -- a row that doesn't count is as good as none: no frame finds another row where its place is emptied (01: "a spoiled table does no harm")
 pub search_spoiled : (s : Rows) (q : Question) (rows : List Filter) (i : ℕ) → q.asks ≡ Fits → counts_of s (row_of rows i) ≡ false → search_of s q (set rows i no_row) ≡ search_of s q rows
-search_spoiled s q rows i a e = emptied s q rows i (answers_spoiled s q (row_of rows i) a e)
+search_spoiled s q rows i a e = emptied s q rows i (subst Asking (sym a) tt) (answers_spoiled s q (row_of rows i) a e)
 
 -- nor does start look at a row that is no filter
-pub search_no_filter : (s : Rows) (q : Question) (rows : List Filter) (i : ℕ) → is_filter_of (row_of rows i) ≡ false → search_of s q (set rows i no_row) ≡ search_of s q rows
-search_no_filter s q rows i e = emptied s q rows i (answers_no_filter s q (row_of rows i) e)
+pub search_no_filter : (s : Rows) (q : Question) (rows : List Filter) (i : ℕ) → Asking q.asks → is_filter_of (row_of rows i) ≡ false → search_of s q (set rows i no_row) ≡ search_of s q rows
+search_no_filter s q rows i asks e = emptied s q rows i asks (answers_no_filter s q (row_of rows i) asks e)

@@ -1,6 +1,6 @@
 -- What a row of the filter table says (01, Records, kind 2 and the filter table's paragraph), which rows start refuses (01, refusals 7 and 8),
 -- and which row a frame uses (01, A frame's path, step 1).
-use Rattle.std.specs.Prelude.{ℕ, zero, suc, ◌+◌, ◌-◌, Bool, not, ◌&&◌, ◌||◌, cond, List, eqb, leb, ltb, get_or, Option, Some, None, is_some, is_none, unwrap_or}
+use Rattle.std.specs.Prelude.{ℕ, zero, suc, ◌+◌, ◌-◌, Bool, true, not, ◌&&◌, ◌||◌, cond, List, eqb, leb, ltb, get_or, Option, Some, None, is_some, is_none, unwrap_or}
 use mir.Val.{bool_byte}
 use Rattle.sizes.specs.Meaning.{filter_count, last_gate, last_meter, last_scheduler}
 use Rattle.frame.specs.Meaning.{length_of}
@@ -75,11 +75,12 @@ row_of rows i = get_or rows i no_row
 
 -- ---- a search
 
--- what is asked of a row: that a frame uses it, that start refuses it with 7, that start refuses it with 8
+-- what is asked of a row: that a frame uses it, that start refuses it with 7, that start refuses it with 8, nothing
 pub data Asks : Type 0 where
   Fits : Asks
   Missing : Asks
   ExceedsBurst : Asks
+  Any : Asks
 
 -- a question on the places `from` up to and without `to`. Only `Fits` looks at the key
 pub record Question : Type 0 where
@@ -100,6 +101,7 @@ abbrev pub asked : Asks → Rows → Key → Filter → Bool
 asked Fits s k f = fits_of k f && counts_of s f
 asked Missing s k f = is_filter_of f && names_missing s f
 asked ExceedsBurst s k f = is_filter_of f && exceeds_burst s f
+asked Any s k f = true
 
 unfoldable pub row_answers : Rows → Question → Filter → Bool
 row_answers s q f = asked q.asks s q.key f

@@ -10,5 +10,5 @@ pub returns : goal.returns
 unfolding row_answers
 returns c =
     let q = of_every_place ExceedsBurst no_key in
-    c.search.ensures (row_answers (rows_of c.args.bank.now) q) (λ row b says. search rules) (answers_empty (rows_of c.args.bank.now) q)
+    c.search.ensures (row_answers (rows_of c.args.bank.now) q) (λ row b says. search rules) (answers_empty (rows_of c.args.bank.now) q tt)
     ∙ search_whole (rows_of c.args.bank.now) c.args.table.now ExceedsBurst no_key

@@ -10,5 +10,5 @@ pub returns : goal.returns
 unfolding row_answers
 returns c =
     let q = of_every_place Fits c.args.key in
-    c.search.ensures (row_answers (rows_of c.args.bank.now) q) (λ row b says. search rules) (answers_empty (rows_of c.args.bank.now) q)
+    c.search.ensures (row_answers (rows_of c.args.bank.now) q) (λ row b says. search rules) (answers_empty (rows_of c.args.bank.now) q tt)
     ∙ search_whole (rows_of c.args.bank.now) c.args.table.now Fits c.args.key
