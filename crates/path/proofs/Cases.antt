@@ -1,20 +1,22 @@
 -- The cases of each step of a frame's path, each from what tells it from the others.
 use Rattle.std.specs.Prelude.{◌≡◌, ℕ, ◌<◌, ◌≤◌, Bool, true, false, not, ◌&&◌, ◌||◌, List, Some, None, ◌==◌, ◌≢◌, nat_lt}
-use Rattle.std.proofs.Common.{lt-ltb, le-ltb, eq-eqb, ne_eqb}
+use Rattle.std.proofs.Common.{ap, ◌∙◌, lt-ltb, le-ltb, eq-eqb, ne_eqb}
 use Rattle.gate.specs.declared.Stepped.{Stepped as GateStepped}
 use Rattle.gate.specs.declared.Outcome.{Outcome as GateOutcome}
 use Rattle.meter.specs.declared.Metered.{Metered}
 use Rattle.meter.specs.declared.Outcome.{Outcome as MeterOutcome}
+use Rattle.scheduler.specs.declared.Scheduler.{Scheduler}
 use Rattle.scheduler.specs.declared.Stepped.{Stepped}
 use Rattle.scheduler.specs.declared.Outcome.{Outcome as SchedulerOutcome}
+use Rattle.scheduler.specs.declared.Outcome.TheVariants.{Admitted}
 use Rattle.record.specs.declared.ArrivalRecord.{ArrivalRecord}
 use Rattle.record.specs.declared.Refusal.TheVariants.{TimeGoesBack}
 use Rattle.bank.specs.declared.Counters.{Counters}
-use Rattle.bank.specs.Meaning.{Rows, component, with_clock, counters, with_gate_state, with_meter_state, scheduler_group}
+use Rattle.bank.specs.Meaning.{Rows, component, with_clock, counters, with_gate_state, with_meter_state, scheduler_group, with_scheduler_state, with_group_last}
 use Rattle.filter.specs.declared.Filter.{Filter}
 use Rattle.filter.specs.Meaning.{Found}
 use Rattle.verdict.specs.declared.Drop.TheVariants as drop
-use Rattle.verdict.specs.Meaning.{Refused, Dropped, told}
+use Rattle.verdict.specs.Meaning.{Verdict, Refused, Dropped, told}
 use Rattle.path.specs.Meaning.{pass_of, sdu_failed, sdu_passed, offered_of, scheduled_by, scheduled_of, coloured_of, metered_by, metered_of, reached_of, gated_by, gated_of, sdu_filtered_of, arrival_of}
 
 module _ (s : Rows) (a : ArrivalRecord) (row : Filter) (priority : ℕ) (mark : Bool) where
@@ -26,6 +28,13 @@ module _ (s : Rows) (a : ArrivalRecord) (row : Filter) (priority : ℕ) (mark : 
       → scheduled_of s a row priority mark ≡ scheduled_by s a row.scheduler j priority mark r.scheduler o
   unfolding scheduled_of
   scheduled_by_lem h j ej r er o eo = rw (ne_eqb _ _ h, ← ej, ← er, eo)
+
+-- admitted: the scheduler is stored, then the group's last time, and the frame passes
+pub scheduled_admitted : (s s₁ s₂ : Rows) (a : ArrivalRecord) (i j priority : ℕ) (mark : Bool) (at : ℕ) (x : Scheduler) (v : Verdict) → s₁ ≡ with_scheduler_state s i x → s₂ ≡ with_group_last s₁ j at
+    → v ≡ pass_of s₂ priority mark (Some at) → told s₂ v ≡ scheduled_by s a i j priority mark x (Admitted at)
+unfolding scheduled_by
+scheduled_admitted s s₁ s₂ a i j priority mark at x v e₁ e₂ ev =
+    ap (λ (u : Verdict). told s₂ u) ev ∙ ap (λ (t : Rows). told t (pass_of t priority mark (Some at))) (e₂ ∙ ap (λ (t : Rows). with_group_last t j at) e₁)
 
 module _ (s : Rows) (a : ArrivalRecord) (f : ℕ) (row : Filter) (priority : ℕ) where
   pub metered_none : row.meter ≡ 255 → metered_of s a f row priority ≡ scheduled_of s a row priority a.drop_eligible

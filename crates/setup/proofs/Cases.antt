@@ -3,7 +3,7 @@ use Rattle.std.specs.Prelude.{ℕ, zero, suc, ◌+◌, ◌-◌, ◌≤◌, ◌<�
 use Rattle.std.proofs.Math.Bool.{or-false, or_assoc}
 use Rattle.std.specs.List.{list_any, range_with_len}
 use Rattle.std.proofs.Common.{sym, add-zero, zero-add, arith, ⊎_elim, ap, ◌∙◌, not-suc-le-zero, eq-or-lt_of_le, le_of_suc-le-suc, add-one}
-use borrow.Author.Tests.{lt-ltb, le-ltb, eqb-true}
+use borrow.Author.Tests.{lt-ltb, le-ltb, ne_eqb, eqb-true}
 use Rattle.sizes.specs.Meaning.{entry_count, entry_octets}
 use Rattle.logic.specs.Laws.{neither_left, neither_right, if_by}
 use Rattle.record.specs.Meaning.{flag_number_of}
@@ -30,6 +30,11 @@ pub refused_by : (P : Told → Type 0) (b : Bool) (why : Refusal) (s : Rows) (t 
 unfolding refused_if
 refused_by P true why s t h k = h
 refused_by P false why s t h k = k
+
+module _ (test : ℕ → Bool) (found : Bool) (n : ℕ) (e : found ≡ some_of test n) where
+  pub some_more : (t : Bool) → t ≡ test n → (found || t) ≡ some_of test (n + 1)
+  unfolding some_of
+  some_more t e' = rw (add-one, e, e')
 
 -- what `any` finds among the numbers below n, one after the other, is what `some_of` finds
 some_of_more : (test : ℕ → Bool) (a n : ℕ) → (some_of test a || list_any test (range_with_len a n)) ≡ some_of test (a + n)
@@ -74,6 +79,10 @@ kept_more ws body kept at k v below e h =
     let more : entry_octets - k ≡ suc (entry_octets - suc k) = omega arith in
     rw (e, add-one) (rw more at h)
 
+-- the number of a flag is none of 1 to 4
+abbrev pub Others : ℕ → Type 0
+Others n = ((((Unit {0} × (n ≡ 1 → ⊥)) × (n ≡ 2 → ⊥)) × (n ≡ 3 → ⊥)) × (n ≡ 4 → ⊥))
+
 module _ (s : Rows) (r : ClearRecord) (row : Filter) where
   pub clear_oversize : flag_number_of r.flag ≡ 1 → clear_of s r row ≡ clear_oversize_of s r.id row
   unfolding clear_of
@@ -90,6 +99,10 @@ module _ (s : Rows) (r : ClearRecord) (row : Filter) where
   pub clear_red : flag_number_of r.flag ≡ 4 → clear_of s r row ≡ clear_red_of s r.id
   unfolding clear_of
   clear_red e = rw e
+
+  pub clear_none : Others (flag_number_of r.flag) → clear_of s r row ≡ told s (Refused NotSetUp)
+  unfolding clear_of
+  clear_none o = rw (ne_eqb (flag_number_of r.flag) 1 o.0.0.0.1, ne_eqb (flag_number_of r.flag) 2 o.0.0.1, ne_eqb (flag_number_of r.flag) 3 o.0.1, ne_eqb (flag_number_of r.flag) 4 o.1)
 
 -- what holds of each flag's clear, and where there is no such flag, holds of the clear
 pub clear_by_lem : (P : Told → Type 0) (s : Rows) (r : ClearRecord) (row : Filter) → (flag_number_of r.flag ≡ 1 → P (clear_oversize_of s r.id row)) → (flag_number_of r.flag ≡ 2 → P (clear_invalid_receive_of s r.id)) → (flag_number_of r.flag ≡ 3 → P (clear_octets_of s r.id))
