@@ -115,8 +115,8 @@ module _ (b : Bridge) (c : Call) (i : ℕ) (spoiled : spoiled_at b i ≡ true) w
 
   start_spoiled : (r : StartRecord) → started ≡ false → start_of b.bank r (first_row b Missing no_key) (first_row b ExceedsBurst no_key) ≡ start_of b.bank r (first_row (emptied i b) Missing no_key) (first_row (emptied i b) ExceedsBurst no_key)
   start_spoiled r e =
-      ap (λ (miss : Found). start_of b.bank r miss (first_row b ExceedsBurst no_key)) (sym (search_no_filter b.bank _ b.table i (before_start e)))
-      ∙ ap (start_of b.bank r (first_row (emptied i b) Missing no_key)) (sym (search_no_filter b.bank _ b.table i (before_start e)))
+      ap (λ (miss : Found). start_of b.bank r miss (first_row b ExceedsBurst no_key)) (sym (search_no_filter b.bank _ b.table i tt (before_start e)))
+      ∙ ap (start_of b.bank r (first_row (emptied i b) Missing no_key)) (sym (search_no_filter b.bank _ b.table i tt (before_start e)))
 
   -- an arrival uses the same row
   arrival_spoiled : (a : ArrivalRecord) → started ≡ true → arrival_of b.bank b.lists a (first_row b Fits (key_of a)) ≡ arrival_of b.bank b.lists a (first_row (emptied i b) Fits (key_of a))
