@@ -1,7 +1,7 @@
 -- Laws of `grown`, `ceiling` and `wait_for`: what meters, schedulers and the promise on bursts rest on.
-use Rattle.std.specs.Prelude.{◌≡◌, ℕ, ◌+◌, ◌-◌, ◌*◌, ◌≤◌, ◌<◌, min}
-use Rattle.std.proofs.Common.{subst, mul-add, mul_comm, add-mul, one-mul, mul-le-mul_left, mul-le-mul_right, mul-zero, div-lt_iff_lt-mul, le-div_iff_mul-le, arith}
-use Rattle.std.proofs.Math.Nat.{div-eq_of_lt}
+use Rattle.std.specs.Prelude.{◌≡◌, ℕ, ◌+◌, ◌-◌, ◌*◌, ◌/◌, ◌%◌, ◌≤◌, ◌<◌, min}
+use Rattle.std.proofs.Common.{ap, subst, ◌∙◌, mul-add, mul_comm, add-mul, one-mul, mul-le-mul_left, mul-le-mul_right, mul-zero, mod-lt, div-add-mod', div-lt_iff_lt-mul, le-div_iff_mul-le, arith}
+use Rattle.std.proofs.Math.Nat.{div-eq_of_lt-le, div-eq_of_lt, div-zero}
 use Rattle.bucket.specs.Meaning.{grown, ceiling, wait_for}
 
 pub grown_cap : (l r c d : ℕ) → grown l r c d ≤ c
@@ -29,6 +29,19 @@ ceiling_enough n r w pos h = omega (arith, (div-lt_iff_lt-mul {x = n + (r - 1)} 
 
 pub ceiling_least : (n r w : ℕ) → 0 < r → n ≤ r * w → ceiling n r ≤ w
 ceiling_least n r w pos h = omega (arith, (div-lt_iff_lt-mul {x = n + (r - 1)} {y = w + 1} pos).1 (omega (arith, add-mul w 1 r, one-mul r, mul_comm w r)))
+
+-- by 0, 0
+pub ceiling_by_none : (n r : ℕ) → r ≡ 0 → ceiling n r ≡ 0
+ceiling_by_none n r none = ap (λ (q : ℕ). (n + (q - 1)) / q) none ∙ div-zero _
+
+-- the quotient itself where nothing remains, and one more where something does
+pub ceiling_whole : (n r : ℕ) → 0 < r → n % r ≡ 0 → ceiling n r ≡ n / r
+ceiling_whole n r pos none = div-eq_of_lt-le {k = n / r} r {m = n + (r - 1)} (omega (arith, div-add-mod' n r)) (omega (arith, div-add-mod' n r, add-mul (n / r) 1 r, one-mul r))
+
+pub ceiling_part : (n r : ℕ) → 0 < r → 0 < n % r → ceiling n r ≡ n / r + 1
+ceiling_part n r pos some =
+    div-eq_of_lt-le {k = n / r + 1} r {m = n + (r - 1)} (omega (arith, div-add-mod' n r, add-mul (n / r) 1 r, one-mul r))
+    (omega (arith, mod-lt n pos, div-add-mod' n r, add-mul (n / r) 1 r, add-mul (n / r + 1) 1 r, one-mul r))
 
 -- `w` ns are enough exactly where `w` is at least `wait_for`
 pub wait_enough : (l r n w : ℕ) → 0 < r → wait_for l r n ≤ w → n ≤ l + r * w

@@ -1,7 +1,7 @@
--- What has passed in an interval, a step under a flag, and then the five ways in which a step can go.
-use Rattle.std.specs.Prelude.{ℕ, ◌+◌, ◌≤◌, true, ◌||◌, Option, Some, None, List, ◌≡◌, refl, eqb, leb}
+-- The cases of a step, each from the facts that a step has in hand, and then the five ways in which a step can go.
+use Rattle.std.specs.Prelude.{ℕ, ◌+◌, ◌-◌, ◌≤◌, ◌<◌, true, false, ◌||◌, Option, Some, None, List, ◌≡◌, refl, eqb, leb}
 use Rattle.std.proofs.Common.{sym, ap, ◌∙◌}
-use borrow.Author.Tests.{eq-eqb, ne_eqb, eqb-true, leb-true}
+use borrow.Author.Tests.{eq-eqb, ne_eqb, le-leb, lt-leb, eqb-true, leb-true}
 use Rattle.std.proofs.lemmas.Option.{same_Some, none-some}
 use Rattle.logic.specs.Laws.{if_by}
 use Rattle.gate.specs.declared.Entry.{Entry}
@@ -9,7 +9,7 @@ use Rattle.gate.specs.declared.Found.{Found}
 use Rattle.gate.specs.declared.Gate.{Gate}
 use Rattle.gate.specs.declared.Stepped.{Stepped}
 use Rattle.gate.specs.declared.Outcome.TheVariants.{Passed, Blocked, Closed, TooManyOctets}
-use Rattle.gate.specs.Meaning.{no_limit, gate_answer, with_invalid_receive, with_octets, with_spent, spent_of, left_of, limited_of, passed_of, in_force_of, gate_step_of}
+use Rattle.gate.specs.Meaning.{no_limit, gate_answer, with_invalid_receive, with_octets, with_spent, spent_of, left_of, closed_of, limited_of, passed_of, in_force_of, gate_step_of}
 
 module _ (g : Gate) where
   pub spent_same : (start : ℕ) → g.since ≡ start → spent_of g start ≡ g.spent
@@ -20,10 +20,45 @@ module _ (g : Gate) where
   unfolding spent_of
   spent_other start e = rw (ne_eqb g.since start e)
 
+  module _ (f : Found) (n : ℕ) where
+    pub limited_none : f.entry.maximum ≡ no_limit → limited_of g f n ≡ gate_answer g (Passed f.entry.ipv)
+    unfolding limited_of
+    limited_none e = rw (eq-eqb f.entry.maximum no_limit e)
+
+    module _ (spent left : ℕ) (some : f.entry.maximum ≡ no_limit → ⊥) (s : spent ≡ spent_of g f.start) (l : left ≡ f.entry.maximum - spent) where
+      pub limited_enough : n ≤ left → limited_of g f n ≡ gate_answer (with_spent g f.start (spent + n)) (Passed f.entry.ipv)
+      unfolding limited_of
+      limited_enough h = rw (ne_eqb f.entry.maximum no_limit some, ← s, ← l, le-leb n left h)
+
+      pub limited_exceeded : left < n → limited_of g f n ≡ gate_answer (with_octets g) TooManyOctets
+      unfolding limited_of
+      limited_exceeded h = rw (ne_eqb f.entry.maximum no_limit some, ← s, ← l, lt-leb n left h)
+
+  module _ (n : ℕ) where
+    pub passed_record_open : g.opened ≡ true → passed_of g None n ≡ gate_answer g (Passed g.ipv)
+    unfolding passed_of
+    passed_record_open e = rw e
+
+    pub passed_record_closed : g.opened ≡ false → passed_of g None n ≡ closed_of g
+    unfolding passed_of
+    passed_record_closed e = rw e
+
+    pub passed_entry_open : (f : Found) → f.entry.opened ≡ true → passed_of g (Some f) n ≡ limited_of g f n
+    unfolding passed_of
+    passed_entry_open f e = rw e
+
+    pub passed_entry_closed : (f : Found) → f.entry.opened ≡ false → passed_of g (Some f) n ≡ closed_of g
+    unfolding passed_of
+    passed_entry_closed f e = rw e
+
   module _ (es : List Entry) (t n : ℕ) where
     pub step_blocked : (g.invalid_receive_flag || g.octets_flag) ≡ true → gate_step_of g es t n ≡ gate_answer g Blocked
     unfolding gate_step_of
     step_blocked e = rw e
+
+    pub step_unblocked : (g.invalid_receive_flag || g.octets_flag) ≡ false → gate_step_of g es t n ≡ passed_of g (in_force_of es g.base t) n
+    unfolding gate_step_of
+    step_unblocked e = rw e
 
 -- ---- the ways
 

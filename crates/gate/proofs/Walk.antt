@@ -1,5 +1,6 @@
 -- The walk over a list: its entries by their own octets, the sum of the intervals, and one turn of the search for the entry in force.
 use Rattle.std.proofs.Common.{ℕ, zero, suc, ◌+◌, ◌-◌, ◌*◌, ◌/◌, ◌%◌, ◌≤◌, ◌<◌, Some, None, List, [], ◌∷◌, ◌≡◌, refl, length, map, get_or, take, drop, min, add-one, arith}
+use Rattle.std.proofs.Math.Nat.{sub-zero}
 use Rattle.std.specs.List.{sum_by}
 use Rattle.std.specs.Simd.{first_chunks}
 use Rattle.std.proofs.lemmas.List.{drop-drop, get_or-take, get_or-drop, drop_more, drop_all}
@@ -38,6 +39,32 @@ pub cycle_sum : (octets : List (List ℕ)) → cycle_of (map entry_in octets) �
 unfolding cycle_of
 cycle_sum [] = refl
 cycle_sum (o ∷ more) = grind (arith, common_steps, cycle_sum more)
+
+-- the entries of the whole octets from the i-th on
+abbrev pub rest_of : List ℕ → ℕ → List Entry
+rest_of s i = entries_from s i (entries_in s - i)
+
+-- from the first on these are all
+pub rest_all : (s : List ℕ) → rest_of s 0 ≡ entries_of s
+rest_all s = rw sub-zero
+
+-- what is summed of the intervals before the i-th entry, and the cycle of the rest
+module _ (s : List ℕ) (i : ℕ) where
+  rest_more : i < entries_in s → rest_of s i ≡ entry_at s i ∷ rest_of s (i + 1)
+  unfolding entries_from
+  rest_more h = let e : entries_in s - i ≡ suc (entries_in s - (i + 1)) = omega arith in rw (e, add-one i)
+
+  rest_done : entries_in s ≤ i → rest_of s i ≡ []
+  unfolding entries_from
+  rest_done h = let e : entries_in s - i ≡ 0 = omega arith in rw e
+
+  pub cycle_more : (sum d all : ℕ) → i < entries_in s → d ≡ (entry_at s i).interval → sum + cycle_of (rest_of s i) ≡ all → sum + d + cycle_of (rest_of s (i + 1)) ≡ all
+  unfolding cycle_of
+  cycle_more sum d all h e w = let w' = rw (rest_more h) at w in omega arith
+
+  pub cycle_done : (sum all : ℕ) → entries_in s ≤ i → sum + cycle_of (rest_of s i) ≡ all → sum ≡ all
+  unfolding cycle_of
+  cycle_done sum all h w = let w' = rw (rest_done h) at w in omega arith
 
 -- what is looked for among the entries from the i-th on
 module _ (octets : List (List ℕ)) (i t x : ℕ) where

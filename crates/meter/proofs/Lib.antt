@@ -1,3 +1,4 @@
+pub mod Fill
 pub mod Cases
 pub mod Laws
 pub mod Worked

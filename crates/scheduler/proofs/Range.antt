@@ -1,6 +1,7 @@
 -- What a range check that held tells of the numbers of a step.
 use Rattle.std.specs.Prelude.{ℕ, ◌+◌, ◌≤◌, ◌^◌, true, ◌≡◌}
 use Rattle.std.proofs.Common.{leb-true, le-leb}
+use Rattle.bucket.specs.declared.Rate.{Rate}
 use Rattle.bucket.specs.declared.Octets.{Octets}
 use Rattle.scheduler.specs.declared.Scheduler.{Scheduler}
 use Rattle.logic.specs.Laws.{conjuncts}
@@ -42,3 +43,14 @@ module _ (s : Scheduler) (group residence arrival : ℕ) (length : Octets) where
   unfolding scheduler_in_range
   ranged_back k =
       simp (le-leb _ _ k.burst_high, le-leb _ _ k.burst_low, le-leb _ _ k.level_high, le-leb _ _ k.length_high, le-leb _ _ k.rate_low, le-leb _ _ k.rate_high, le-leb _ _ k.last_high, le-leb _ _ k.group_high, le-leb _ _ k.arrival_high, le-leb _ _ k.residence_low, le-leb _ _ k.residence_high)
+
+-- the same of a scheduler given by its numbers
+abbrev pub InRange : Rate → Octets → ℕ → ℕ → ℕ → ℕ → ℕ → Octets → Type 0
+InRange rate burst level last group residence arrival length = Ranged (record { rate = rate; burst = burst; level = level; last = last }) group residence arrival length
+
+module _ (rate : Rate) (burst : Octets) (level last group residence arrival : ℕ) (length : Octets) where
+  pub in_range : scheduler_in_range (record { rate = rate; burst = burst; level = level; last = last }) group residence arrival length ≡ true → InRange rate burst level last group residence arrival length
+  in_range e = ranged (record { rate = rate; burst = burst; level = level; last = last }) group residence arrival length e
+
+  pub in_range_back : InRange rate burst level last group residence arrival length → scheduler_in_range (record { rate = rate; burst = burst; level = level; last = last }) group residence arrival length ≡ true
+  in_range_back k = ranged_back (record { rate = rate; burst = burst; level = level; last = last }) group residence arrival length k
