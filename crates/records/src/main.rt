@@ -26,6 +26,7 @@ impl From<Failure> for Stop {
     }
 }
 
+// The lines that wait to be written, and how far the reading is.
 #[derive(Drop)]
 struct Printer {
     page: Page<65536>,
@@ -38,7 +39,11 @@ struct Printer {
 
 impl Printer {
     // Every record of `input`. What is printed of the records before a read that fails is left on the page.
-    fn print_all<R: Read, W: Write>(&mut self, input: &mut R, output: &mut W) -> Result<(), Stop> {
+    fn print_pieces<R: Read, W: Write>(
+        &mut self,
+        input: &mut R,
+        output: &mut W,
+    ) -> Result<(), Stop> {
         let mut buf = [0u8; 65536];
         let mut kept = 0;
         for _ in 0..u64::MAX {
@@ -96,7 +101,7 @@ fn print_all<R: Read, W: Write>(input: &mut R, output: &mut W) -> Result<(), Fai
         offset: 0,
         started: false,
     };
-    let end = printer.print_all(input, output);
+    let end = printer.print_pieces(input, output);
     let Printer {
         mut page,
         offset,

@@ -104,20 +104,12 @@ fn tell<const N: usize>(page: &mut Page<N>, p: Progress, answer: Result<Taken, R
     };
     let arrival = p.arrivals.wrapping_add(1);
     match taken.outcome {
-        Outcome::Done => advanced(p, taken.used, p.arrivals, page),
-        Outcome::Passed(pass) => {
-            if !p.quiet {
-                page.put_pass(arrival, pass);
-            }
-            advanced(p, taken.used, arrival, page)
-        }
-        Outcome::Dropped(why) => {
-            if !p.quiet {
-                page.put_drop(arrival, why);
-            }
-            advanced(p, taken.used, arrival, page)
-        }
+        Outcome::Done => return advanced(p, taken.used, p.arrivals, page),
+        _ if p.quiet => {}
+        Outcome::Passed(pass) => page.put_pass(arrival, pass),
+        Outcome::Dropped(why) => page.put_drop(arrival, why),
     }
+    advanced(p, taken.used, arrival, page)
 }
 
 // One record more.
