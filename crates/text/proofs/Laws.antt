@@ -93,16 +93,12 @@ module _ (table : List ℕ) (n : ℕ) (name : List ℕ) (value : ℕ) where
   item_some h = rw (ne_eqb value 0 h)
 
 module _ (f : ℕ → List ℕ) (p : Page) where
-  pub up_none : p ≡ written p (up_to f 0)
-  unfolding up_to written
-  up_none = refl
-
-  pub up_next : (q r : Page) (i : ℕ) → q ≡ written p (up_to f i) → r ≡ written q (f i) → r ≡ written p (up_to f (i + 1))
+  pub up_more : (i : ℕ) → written p (up_to f (i + 1)) ≡ written (written p (up_to f i)) (f i)
   unfolding up_to
-  up_next q r i e h = written_then p q r (up_to f i) (f i) e h ∙ ap (λ (k : ℕ). written p (up_to f k)) (sym (add-one i))
+  up_more i = ap (λ (k : ℕ). written p (up_to f k)) (add-one i) ∙ written_append p (up_to f i) (f i)
 
   pub up_last : (q : Page) (i n : ℕ) → i ≤ n → n ≤ i → q ≡ written p (up_to f i) → q ≡ written p (up_to f n)
   up_last q i n l m e = e ∙ ap (λ (k : ℕ). written p (up_to f k)) (omega (arith, l, m))
 
 -- one thing put after another, octets and texts
-pub ruleset puts = (written_append, written_more, digits_one, digits_two, digits_pair, item_none, item_some)
+pub ruleset puts = (written_append, written_more, digits_one, digits_two, digits_pair, item_none, item_some, up_more)

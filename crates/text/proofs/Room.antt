@@ -1,10 +1,11 @@
 -- The room of a line: where there are places enough, all of it is put, octet by octet after what is filled; and no line needs more of them than
 -- are kept for it (`line_room`).
+use Rattle.std.specs.Prelude.{ℕ, zero, suc, ◌+◌, ◌-◌, ◌*◌, ◌/◌, ◌%◌, ◌^◌, ◌<◌, ◌≤◌, Bool, true, false, Option, Some, None, List, [], ◌∷◌, ◌++◌, ◌≡◌, refl, leb, ltb, length, set, take, drop}
 use mir.Val.{bool_byte}
-use Rattle.std.specs.Prelude.{ℕ, Bool, false, zero, suc, ◌+◌, ◌*◌, ◌/◌, ◌%◌, ◌^◌, ◌<◌, ◌≤◌, true, Option, Some, None, List, [], ◌∷◌, ◌++◌, ◌≡◌, refl, leb, ltb, length, set, take, drop}
-use Rattle.std.proofs.Common.{sym, ap, ◌∙◌, arith, add-one, leb-true, ltb-true, ltb-false, length-set}
+use Rattle.std.proofs.Common.{append_assoc, sym, ap, ◌∙◌, arith, add-one, leb-true, ltb-true, ltb-false, length-set}
 use Rattle.std.proofs.Math.ListN.{length-append}
 use Rattle.std.proofs.lemmas.List.Edits.{sets, sets-eq}
+use borrow.Rule.Slice.PartMut.{put_mid, Post-is}
 use Rattle.logic.specs.Laws.{by_test, if_by}
 use Rattle.verdict.specs.declared.Drop.{Drop}
 use Rattle.verdict.specs.declared.Drop.TheVariants.{OversizeBlocked, Oversize, GateBlocked, GateClosed, GateOctets, Yellow, Red, Residence}
@@ -33,6 +34,16 @@ stored (v ∷ line) octets filled l =
 
 pub written_whole : (octets : List ℕ) (filled : ℕ) (line : List ℕ) → filled + length line ≤ length octets → written (page octets filled) line ≡ whole_line octets filled line
 written_whole octets filled line l = stored line octets filled l ∙ ap (λ (xs : List ℕ). page xs (filled + length line)) (sets-eq line octets filled l)
+
+-- so it is what a part of the buffer takes at once
+pub put_whole : (octets : List ℕ) (filled : ℕ) (line : List ℕ) → filled + length line ≤ length octets
+    → page (put_mid filled (filled + length line - filled) octets line) (filled + length line) ≡ written (page octets filled) line
+put_whole octets filled line l =
+    let end = filled + length line in
+    sym
+    (written_whole octets filled line l
+    ∙ ap (λ (xs : List ℕ). page xs end)
+    (append_assoc (take filled octets) line (drop end octets) ∙ ap (λ (xs : List ℕ). take filled octets ++ (line ++ xs)) (sym (Post-is filled end octets (omega arith)))))
 
 -- with places or without, a line moves the place by no more than its octets
 pub written_moves : (line : List ℕ) (p : Page) → (written p line).filled ≤ p.filled + length line
@@ -97,15 +108,15 @@ drop_number_room d = digits_8 (drop_number_of d) (small d)
     small Red = omega arith
     small Residence = omega arith
 
-mark_low : (mark : Bool) → bool_byte mark < 2 ^ 8
-mark_low true = omega arith
-mark_low false = omega arith
-
 module _ (arrival : ℕ) (l : arrival < 2 ^ 64) where
   pub pass_room : (p : Pass) → p.priority < 2 ^ 8 → p.class < 2 ^ 8 → ((at : ℕ) → p.eligible ≡ Some at → at < 2 ^ 64) → length (pass_line_of arrival p) ≤ line_room
   unfolding pass_line_of
   pass_room p a b e =
-      simp length-append (omega (arith, digits_64 arrival l, digits_8 p.priority a, digits_8 p.class b, digits_8 (bool_byte p.drop_mark) (mark_low p.drop_mark), time_room p.eligible e))
+      simp length-append (omega (arith, digits_64 arrival l, digits_8 p.priority a, digits_8 p.class b, digits_8 (bool_byte p.drop_mark) (small p.drop_mark), time_room p.eligible e))
+    where
+      small : (b : Bool) → bool_byte b < 2 ^ 8
+      small true = omega arith
+      small false = omega arith
 
   pub drop_room : (d : Drop) → length (drop_line_of arrival d) ≤ line_room
   unfolding drop_line_of
