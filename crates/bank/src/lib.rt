@@ -68,12 +68,12 @@ pub struct Group {
 // What is counted of a filter.
 #[derive(Clone, Copy)]
 pub enum Counter {
-    Matching,
-    PassingSdu,
-    NotPassingSdu,
-    Passing,
-    NotPassing,
-    Red,
+    Matching = 0,
+    PassingSdu = 1,
+    NotPassingSdu = 2,
+    Passing = 3,
+    NotPassing = 4,
+    Red = 5,
 }
 
 // The rows of the objects of one kind: the first of them, and how many there are.
@@ -154,6 +154,9 @@ impl Bank {
         }
     }
 
+    // Kept, of the stores and tests of one word: a name for each, a line long, over `put_word` and `word`. One public function over a table, a row
+    // and a word would say no more, and `with_clock`, `gate_is_set` and their like, which callers cite, would go into each of its calls.
+
     // The traffic classes alone: a start is taken.
     // Ruled out: a store into the row of a port; the classes as the clock.
     pub fn put_classes(&mut self, n: u64)
@@ -231,7 +234,7 @@ impl Bank {
         ensures { rows_of self.new ≡ bump (rows_of self.old) i c }
     {
         let r = COUNTERS.row(i);
-        let k = c.place();
+        let k = usize::from(c);
         let n = self.word(r, k);
         self.put_word(r, k, n.wrapping_add(1));
     }
@@ -543,20 +546,12 @@ impl Bank {
     }
 }
 
-impl Counter {
-    // The word of a counter.
-    fn place(self) -> usize
-        ensures place { result ≡ counter_place self }
-        ensures within { result < row_words }
-    {
-        match self {
-            Counter::Matching => 0,
-            Counter::PassingSdu => 1,
-            Counter::NotPassingSdu => 2,
-            Counter::Passing => 3,
-            Counter::NotPassing => 4,
-            Counter::Red => 5,
-        }
+// The word of a counter.
+impl From<Counter> for usize {
+    ghost from_gives = { λ c n. n ≡ counter_place c };
+
+    fn from(c: Counter) -> usize {
+        c as usize
     }
 }
 

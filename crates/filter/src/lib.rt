@@ -14,6 +14,7 @@ use record::{ArrivalRecord, FilterRecord};
 
 // A row, as document 01's kind 2 has it but for the identifier, which is the row's place. All numbers: whatever a caller leaves in the
 // table is a row. A row of zeros, the default, is empty.
+// Kept: numbers for flags, for any and for none, as C writes them (`transomrib_filter` in include/transomrib.h).
 // Ruled out of the default: a row that is used; a row with a handle.
 #[repr(C)]
 #[derive(Clone, Copy, Default)]

@@ -14,6 +14,7 @@ ghost use Rattle.gate.specs.Meaning.{word_of, entries_of, cycle_of, found_of, in
 #[derive(Clone, Copy)]
 pub struct Gate {
     // The state and the IPV (8 null) that hold where no entry is in force.
+    // Kept: the IPV is a number, since a word that no record wrote is handed on as it stands (`gate`, crate bank; `bench_gate_step`).
     pub opened: bool,
     pub ipv: u8,
     pub invalid_receive_block: bool,
@@ -33,7 +34,7 @@ pub struct Entry {
     pub opened: bool,
     pub ipv: u8,
     pub interval: u64,
-    // 2^32 - 1 is no limit.
+    // 2^32 - 1 is no limit. Kept: the number of the octets that C lends, which `entry_at` gives.
     pub maximum: u64,
 }
 

@@ -133,6 +133,7 @@ fn put_form<const N: usize>(page: &mut Page<N>, form: &[u8], values: &[u64])
     }
 }
 
+// Kept: a mark is a letter of the form and no enum: the forms stand as the line is read.
 // A value at its mark: for A 8 is `any`, for U 8 is `null`, for Z 0 is `none`, for L 255, for M 2^32 - 1; for N every value is a number.
 #[tactic(auto, unfolding(crate::specs::Form::shown_as))]
 fn put_value<const N: usize>(page: &mut Page<N>, mark: u8, value: u64)

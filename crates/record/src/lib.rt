@@ -8,6 +8,8 @@ ghost use Rattle.record.specs.Steps.{taken_as};
 
 use bucket::{Octets, Rate};
 
+// Kept: 8 for any priority or a null IPV, 0 for no max SDU, 255 for none stay numbers, as `transomrib_filter` and the bank of the C interface hold them.
+
 // 01, kind 1. The overhead is in octets.
 #[derive(Clone, Copy)]
 pub struct PortRecord {
@@ -272,6 +274,7 @@ pub fn read(input: &[u8], started: bool) -> Result<(Record, usize), Refusal>
 
 // The body of the record at the front of the input that uses so many octets, as the very part of the input that follows its kind. Every
 // refusal, by the reader or later by the stage, uses 0 octets, so that its body is the empty part at the input's front.
+// Kept: the library's `get` says which octets a part has, and not that it is the very part of the input.
 // Ruled out: a body that begins with the kind; a body that is shown though the record was refused.
 #[tactic(auto, unfolding(crate::specs::Meaning::body_of, crate::specs::Meaning::body_in))]
 pub fn body(input: &[u8], used: usize) -> &[u8]
@@ -510,6 +513,7 @@ impl ClearRecord {
 }
 
 // Numbers of two, four and eight octets, the first the most significant.
+// Kept: one function over a const parameter needs a trait for the three `from_be_bytes`, which is longer than these are.
 fn read_u16(s: &[u8], at: usize) -> u16
     requires { at + 2 ≤ length s.now }
     ensures { result ≡ number_at s.now at 2 }
@@ -528,5 +532,14 @@ fn read_u64(s: &[u8], at: usize) -> u64
     requires { at + 8 ≤ length s.now }
     ensures { result ≡ number_at s.now at 8 }
 {
-    u64::from_be_bytes([s[at], s[at + 1], s[at + 2], s[at + 3], s[at + 4], s[at + 5], s[at + 6], s[at + 7]])
+    u64::from_be_bytes([
+        s[at],
+        s[at + 1],
+        s[at + 2],
+        s[at + 3],
+        s[at + 4],
+        s[at + 5],
+        s[at + 6],
+        s[at + 7],
+    ])
 }

@@ -67,6 +67,7 @@ impl Printer {
         last: bool,
     ) -> Result<usize, Stop> {
         let mut at = 0;
+        // Kept: a step is as long as the record that was read, which no iterator of the library's takes.
         while at < piece.len() {
             match record::read(&piece[at..], self.started) {
                 Ok((r, used)) => {

@@ -13,6 +13,7 @@ use record::Refusal;
 use verdict::{Outcome, Taken};
 
 // An answer as numbers. A field that says nothing of the verdict is 0.
+// Kept: numbers for what an enum, an Option and a bool say elsewhere: the C interface (`transomrib_reply` in include/transomrib.h).
 #[repr(C)]
 #[derive(Clone, Copy, Default)]
 pub struct Reply {
