@@ -1,7 +1,7 @@
 -- What is kept of a piece, and what is read behind it. Assumes nothing.
-use Rattle.std.specs.Prelude.{ℕ, ◌+◌, ◌-◌, ◌≤◌, min, ◌≡◌, List, ◌++◌, length, take, drop}
+use Rattle.std.specs.Prelude.{ℕ, ◌+◌, ◌-◌, ◌≤◌, min, ◌≡◌, List, [], ◌++◌, length, take, drop}
 use Rattle.std.specs.List.{copy_within}
-use Rattle.std.proofs.Common.{sym, ap, ◌∙◌, zero-add, arith, length-take, length-take-le, length-drop, length-append, take-take, take-add}
+use Rattle.std.proofs.Common.{sym, ap, ◌∙◌, append-nil, zero-add, arith, length-take, length-take-le, length-drop, length-append, take-take, take-add}
 use Rattle.std.proofs.Math.Seq.{slice}
 use Rattle.std.proofs.lemmas.List.{take-append-le, take_min, drop_min, drop-take}
 use Rattle.pieces.specs.Meaning.{Fills, Kept, kept_of}
@@ -32,15 +32,24 @@ module _ (before after : List ℕ) (kept at : ℕ) (e : at ≡ min kept (length 
   as_far : take at before ≡ take kept before
   as_far = ap (λ (k : ℕ). take k before) e ∙ take_min kept before
 
-  -- the octets before `at` are as they were, and a read has put those of `new` behind them
-  pub fills_read : (n : ℕ) (new post : List ℕ) → n ≤ length new → after ≡ take at before ++ (new ++ post) → Fills before kept after (at + n)
-  fills_read n new post within is = record {
+  -- no octet was asked for
+  pub fills_none : after ≡ before → Fills before kept after at
+  fills_none same = record {
+    read = [];
+    there = ap (take at) same ∙ as_far ∙ sym (append-nil (take kept before));
+    within = omega (arith, e, ap length same);
+  }
+
+  -- the octets before `at` are as they were
+  pub fills_some : (n : ℕ) → take at after ≡ take at before → take (at + n) after ≡ take kept before ++ take n (drop at after)
+  fills_some n front = take-add at n after ∙ ap (λ (xs : List ℕ). xs ++ take n (drop at after)) (front ∙ as_far)
+
+  -- what a read has put behind them
+  pub fills_read : (n end : ℕ) (new post : List ℕ) → end ≡ at + n → n ≤ length new → after ≡ take at before ++ (new ++ post) → Fills before kept after end
+  fills_read n end new post sum within is = record {
     read = take n (drop at after);
-    there =
-        take-add at n after
-        ∙ ap (λ (xs : List ℕ). xs ++ take n (drop at after))
-        (ap (take at) is ∙ take-append-le at (take at before) (new ++ post) (omega (arith, length-take at before)) ∙ take-take at at before (omega arith) ∙ as_far);
-    within = omega (arith, ap length is, length-append (take at before) (new ++ post), length-append new post, length-take at before);
+    there = ap (λ (k : ℕ). take k after) sum ∙ fills_some n (ap (take at) is ∙ take-append-le at (take at before) (new ++ post) (omega (arith, length-take at before, e)) ∙ take-take at at before (omega arith));
+    within = omega (arith, e, ap length is, length-append (take at before) (new ++ post), length-append new post, length-take at before);
   }
 
 -- what is kept stays where it is

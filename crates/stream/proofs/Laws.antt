@@ -1,8 +1,9 @@
 -- A piece takes a stream from one place to the next, and at its end the stream is what `Drains` says.
-use Rattle.std.specs.Prelude.{◌≡◌, ℕ, ◌+◌, ◌-◌, ◌%◌, ◌^◌, ◌<◌, Bool, false, Option, Some, None, Result, Ok, Err, is_some, List, [], ◌++◌, length, take, drop, refl}
+use Rattle.std.specs.Prelude.{◌≡◌, ℕ, ◌+◌, ◌-◌, ◌%◌, ◌^◌, ◌<◌, Bool, false, Option, Some, None, Result, Ok, Err, is_some, ◌&&◌, ◌||◌, ◌==◌, true, List, [], ◌++◌, length, take, drop, refl}
 use Rattle.std.specs.Result.{result_err}
-use Rattle.std.proofs.Common.{sym, ap, subst, ◌∙◌, arith, length-take, length-drop, length-append}
+use Rattle.std.proofs.Common.{sym, ap, subst, ◌∙◌, arith, length-take, length-drop, length-append, eqb-true}
 use Rattle.std.proofs.Math.Seq.{take-append_seam}
+use Rattle.logic.specs.Laws.{both}
 use Rattle.sizes.specs.Meaning.{filter_count}
 use Rattle.record.specs.declared.Refusal.{Refusal}
 use Rattle.record.specs.declared.Refusal.TheVariants.{CutShort}
@@ -35,6 +36,10 @@ none_by (Some x) e = cc
 pub ok_by : {E : Type 0} (r : Result (Unit {0}) E) → result_err r ≡ None → r ≡ Ok tt
 ok_by (Ok x) e = refl
 ok_by (Err x) e = cc
+
+-- octets were asked for, and none came
+pub asked_empty : (refusal : Option Refusal) (kept : ℕ) (z : Bool) → ((is_some refusal || kept == 0) && z) ≡ true → refusal ≡ None → kept ≡ 0
+asked_empty refusal kept z e n = eqb-true kept 0 (sym (ap (λ (o : Option Refusal). is_some o || kept == 0) n) ∙ (both (is_some refusal || kept == 0) z e).0)
 
 -- before the first piece
 module _ (bank : Rows) (lists buffer : List ℕ) (w : Page) where

@@ -1,7 +1,7 @@
 -- Laws of what is put on a page, and of numbers in decimal.
-use Rattle.std.specs.Prelude.{ℕ, zero, suc, ◌+◌, ◌/◌, ◌%◌, ◌<◌, ◌≤◌, ◌≡◌, Bool, true, false, ltb, length, get_or, set, take}
+use Rattle.std.specs.Prelude.{ℕ, zero, suc, ◌+◌, ◌/◌, ◌%◌, ◌<◌, ◌≤◌, ◌≡◌, Bool, true, false, ltb, length, get_or, set, take, drop}
 use Rattle.std.proofs.Math.Path.{refl, sym, ap}
-use Rattle.std.proofs.Common.{◌∙◌, arith, add-one, ltb-false, lt-ltb, le-ltb, eq-eqb, ne_eqb}
+use Rattle.std.proofs.Common.{◌∙◌, arith, add-one, drop-cons, ltb-false, lt-ltb, le-ltb, eq-eqb, ne_eqb}
 use Rattle.std.proofs.Math.Bool.{cond}
 use Rattle.std.proofs.lemmas.List.{take_more}
 use mathlib.Core.List.{List, [], ◌∷◌, ◌++◌, append_assoc}
@@ -18,6 +18,10 @@ written_append p (x ∷ xs) ys = written_append (put_of p x) xs ys
 pub written_then : (a b c : Page) (xs ys : List ℕ) → b ≡ written a xs → c ≡ written b ys → c ≡ written a (xs ++ ys)
 written_then a b c xs ys e f = f ∙ ap (λ (p : Page). written p ys) e ∙ sym (written_append a xs ys)
 
+pub written_one : (p q : Page) (v : ℕ) → q ≡ put_of p v → q ≡ written p (v ∷ [])
+unfolding written
+written_one p q v e = e
+
 pub written_none : (p : Page) → written p [] ≡ p
 unfolding written
 written_none p = refl
@@ -26,6 +30,12 @@ written_none p = refl
 pub written_more : (p : Page) (vs : List ℕ) (i : ℕ) → i < length vs → written p (take (i + 1) vs) ≡ put_of (written p (take i vs)) (get_or vs i 0)
 unfolding written
 written_more p vs i l = ap (written p) (take_more vs i 0 l) ∙ written_append p (take i vs) (get_or vs i 0 ∷ [])
+
+-- the octets of a list from the first on
+pub written_next : (p q : Page) (vs : List ℕ) (i : ℕ) → i < length vs → q ≡ put_of p (get_or vs i 0) → written q (drop (i + 1) vs) ≡ written p (drop i vs)
+unfolding written
+written_next p q vs i l e =
+    ap (λ (a : Page). written a (drop (i + 1) vs)) e ∙ ap (λ (k : ℕ). written (put_of p (get_or vs i 0)) (drop k vs)) (add-one i) ∙ sym (ap (written p) (drop-cons vs i 0 l))
 
 -- an octet that has a place, and one that has none
 module _ (octets : List ℕ) (filled v : ℕ) where
@@ -93,9 +103,16 @@ module _ (table : List ℕ) (n : ℕ) (name : List ℕ) (value : ℕ) where
   item_some h = rw (ne_eqb value 0 h)
 
 module _ (f : ℕ → List ℕ) (p : Page) where
+  pub up_none : p ≡ written p (up_to f 0)
+  unfolding up_to written
+  up_none = refl
+
   pub up_more : (i : ℕ) → written p (up_to f (i + 1)) ≡ written (written p (up_to f i)) (f i)
   unfolding up_to
   up_more i = ap (λ (k : ℕ). written p (up_to f k)) (add-one i) ∙ written_append p (up_to f i) (f i)
+
+  pub up_next : (q r : Page) (i : ℕ) → q ≡ written p (up_to f i) → r ≡ written q (f i) → r ≡ written p (up_to f (i + 1))
+  up_next q r i e h = h ∙ ap (λ (x : Page). written x (f i)) e ∙ sym (up_more i)
 
   pub up_last : (q : Page) (i n : ℕ) → i ≤ n → n ≤ i → q ≡ written p (up_to f i) → q ≡ written p (up_to f n)
   up_last q i n l m e = e ∙ ap (λ (k : ℕ). written p (up_to f k)) (omega (arith, l, m))

@@ -1,6 +1,6 @@
 -- `lines::put_form` meets its contract. Assumes nothing.
 use Rattle.std.proofs.Common.{sym, ◌∙◌}
-use Rattle.lines.proofs.Form.{put_mark, put_text, put_rest, put_none}
+use Rattle.lines.proofs.Form.{put_mark, put_text, put_rest, filled_over}
 use Rattle.lines.proofs.put_form.Goals as goal
 use Rattle.lines.proofs.put_form.Goals.{then-is_ascii_uppercase, else-is_ascii_uppercase, in-Some, in-None}
 
@@ -33,4 +33,4 @@ loop-c-preserved g c =
     ]
 
 pub returns : goal.returns
-returns g c = sym (put_none c.loop-c.page c.args.form.now c.loop-c.left.rest.now c.loop-c.c-index c.loop-c-test.false) ∙ c.loop-c.invariant
+returns g c = sym (filled_over c.loop-c.page c.args.form.now c.loop-c.left.rest.now c.loop-c.c-index c.loop-c-test.false) ∙ c.loop-c.invariant

@@ -4,4 +4,4 @@ use Rattle.pieces.proofs.Laws.{fills_read}
 use Rattle.pieces.proofs.fill.Goals as goal
 
 pub returns-in-Ok : goal.returns-in-Ok
-returns-in-Ok g c = fills_read c.args.buf.now _ c.args.kept c.min-at.result (omega arith) c.in-Ok.n c.read.new.buf _ (omega (arith, c.in-Ok.ensures.bound)) refl
+returns-in-Ok g c = fills_read c.args.buf.now _ c.args.kept c.min-at.result (omega arith) c.in-Ok.n _ c.read.new.buf _ refl (omega (arith, c.in-Ok.ensures.bound)) refl
