@@ -1,9 +1,9 @@
 -- A piece takes a stream from one place to the next, and at its end the stream is what `Drains` says.
-use Rattle.std.specs.Prelude.{◌≡◌, ℕ, ◌+◌, ◌-◌, ◌%◌, ◌^◌, ◌<◌, Bool, false, Option, Some, None, Result, Ok, Err, is_some, ◌&&◌, ◌||◌, ◌==◌, true, List, [], ◌++◌, length, take, drop, refl}
+use Rattle.std.specs.Prelude.{◌≡◌, ℕ, ◌+◌, ◌-◌, ◌%◌, ◌^◌, ◌<◌, Bool, true, false, ◌&&◌, ◌||◌, Option, Some, None, Result, Ok, Err, is_some, is_ok, List, [], ◌++◌, length, take, drop, ◌==◌, refl}
 use Rattle.std.specs.Result.{result_err}
 use Rattle.std.proofs.Common.{sym, ap, subst, ◌∙◌, arith, length-take, length-drop, length-append, eqb-true}
 use Rattle.std.proofs.Math.Seq.{take-append_seam}
-use Rattle.logic.specs.Laws.{both}
+use Rattle.logic.specs.Laws.{both, never}
 use Rattle.sizes.specs.Meaning.{filter_count}
 use Rattle.record.specs.declared.Refusal.{Refusal}
 use Rattle.record.specs.declared.Refusal.TheVariants.{CutShort}
@@ -16,6 +16,7 @@ use Rattle.text.specs.Meaning.{Page}
 use Rattle.run.specs.declared.Progress.{Progress}
 use Rattle.run.specs.Meaning.{fresh_progress_of, again_of, ran, piece_run_of}
 use Rattle.run.specs.Input.Meaning.{Front, begins}
+use Rattle.pieces.specs.declared.Failure.{Failure}
 use Rattle.pieces.specs.Meaning.{Fills, Kept, kept_of}
 use Rattle.pieces.proofs.Laws.{kept_stays}
 use Rattle.promises.specs.Meaning.{repeated}
@@ -28,7 +29,22 @@ use Rattle.stream.specs.declared.Drained.{Drained}
 use Rattle.stream.specs.Meaning.{empty_table, ended_of, Drains}
 use Rattle.stream.specs.Stands.{Stands, ended_by}
 
--- the tests of the code
+-- the tests of the code: octets were asked for and none came; and what is written and no refusal but a body cut short lets a stream go on
+pub asked_empty : (refusal : Option Refusal) (kept : ℕ) (z : Bool) → ((is_some refusal || kept == 0) && z) ≡ true → refusal ≡ None → kept ≡ 0
+asked_empty None kept z e n = eqb-true kept 0 (both (kept == 0) z e).0
+asked_empty (Some why) kept z e n = absurd cc
+
+abbrev pub goes_on : Option Refusal → Bool
+goes_on None = true
+goes_on (Some CutShort) = true
+goes_on (Some why) = false
+
+pub refused_above : (written : Result (Unit {0}) Failure) (refusal : Option Refusal) (left : ℕ) (f : Option Failure)
+    → f ≡ result_err written → (is_ok written && goes_on refusal) ≡ false → f ≡ None → refusal ≡ None → left ≡ 0
+refused_above (Ok u) None left f e m n z = never (sym m)
+refused_above (Ok u) (Some why) left f e m n z = absurd cc
+refused_above (Err failure) refusal left f e m n z = absurd cc
+
 pub none_by : {T : Type 0} (o : Option T) → is_some o ≡ false → o ≡ None
 none_by None e = refl
 none_by (Some x) e = cc
@@ -36,10 +52,6 @@ none_by (Some x) e = cc
 pub ok_by : {E : Type 0} (r : Result (Unit {0}) E) → result_err r ≡ None → r ≡ Ok tt
 ok_by (Ok x) e = refl
 ok_by (Err x) e = cc
-
--- octets were asked for, and none came
-pub asked_empty : (refusal : Option Refusal) (kept : ℕ) (z : Bool) → ((is_some refusal || kept == 0) && z) ≡ true → refusal ≡ None → kept ≡ 0
-asked_empty refusal kept z e n = eqb-true kept 0 (sym (ap (λ (o : Option Refusal). is_some o || kept == 0) n) ∙ (both (is_some refusal || kept == 0) z e).0)
 
 -- before the first piece
 module _ (bank : Rows) (lists buffer : List ℕ) (w : Page) where

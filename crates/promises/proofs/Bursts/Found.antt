@@ -19,7 +19,6 @@ use Rattle.filter.specs.Meaning.{Found}
 use Rattle.filter.specs.Meaning.{no_row, is_filter_of, names_missing, exceeds_burst, counts_of, fits_of, row_of, search_of, is_found}
 use Rattle.filter.proofs.Laws.{answers_asked}
 use Rattle.filter.proofs.SearchLaws.{search_alike, search_nothing}
-
 use Rattle.promises.proofs.Bursts.Pairs.{group_named, Constants, Fixed, Over, apart}
 use Rattle.promises.proofs.Bursts.Frames.{gate_row_both, meter_row_both, component_both}
 
