@@ -66,21 +66,35 @@ module _ (s : List ℕ) (i : ℕ) where
   unfolding cycle_of
   cycle_done sum all h w = let w' = rw (rest_done h) at w in omega arith
 
--- what is looked for among the entries from the i-th on
+  -- what is looked for among the entries from the i-th on
+  module _ (t x d : ℕ) where
+    pub found_here : i < entries_in s → d ≡ (entry_at s i).interval → x < d → found_of t (rest_of s i) i x ≡ Some (record { index = i; start = t - x; entry = entry_at s i })
+    unfolding found_of
+    found_here h e l = rw (rest_more h, ← e, lt-ltb x d l)
+
+    pub found_later : i < entries_in s → d ≡ (entry_at s i).interval → d ≤ x → found_of t (rest_of s i) i x ≡ found_of t (rest_of s (i + 1)) (i + 1) (x - d)
+    unfolding found_of
+    found_later h e l = rw (rest_more h, ← e, le-ltb x d l, add-one i)
+
+  pub found_none : (t x : ℕ) → entries_in s ≤ i → found_of t (rest_of s i) i x ≡ None
+  unfolding found_of
+  found_none t x h = rw (rest_done h)
+
+-- the same with each entry as its own octets
 module _ (octets : List (List ℕ)) (i t x : ℕ) where
-  pub found_here : (d : List ℕ) → i < length octets → x < (entry_in (get_or octets i d)).interval
+  pub seen_here : (d : List ℕ) → i < length octets → x < (entry_in (get_or octets i d)).interval
       → found_of t (map entry_in (drop i octets)) i x ≡ Some (record { index = i; start = t - x; entry = entry_in (get_or octets i d) })
   unfolding found_of
-  found_here d h l = rw (drop_more octets i d h, lt-ltb x _ l)
+  seen_here d h l = rw (drop_more octets i d h, lt-ltb x _ l)
 
-  pub found_later : (d : List ℕ) → i < length octets → (entry_in (get_or octets i d)).interval ≤ x
+  pub seen_later : (d : List ℕ) → i < length octets → (entry_in (get_or octets i d)).interval ≤ x
       → found_of t (map entry_in (drop i octets)) i x ≡ found_of t (map entry_in (drop (i + 1) octets)) (i + 1) (x - (entry_in (get_or octets i d)).interval)
   unfolding found_of
-  found_later d h l = rw (drop_more octets i d h, le-ltb x _ l, add-one i)
+  seen_later d h l = rw (drop_more octets i d h, le-ltb x _ l, add-one i)
 
-  pub found_none : length octets ≤ i → found_of t (map entry_in (drop i octets)) i x ≡ None
+  pub seen_none : length octets ≤ i → found_of t (map entry_in (drop i octets)) i x ≡ None
   unfolding found_of
-  found_none h = rw (drop_all i octets h)
+  seen_none h = rw (drop_all i octets h)
 
 -- before the base time, and from then on
 module _ (es : List Entry) (base t : ℕ) where

@@ -174,7 +174,7 @@ fn cycle(entries: &[[u8; sizes::ENTRY]]) -> u64
 }
 
 // The entry in whose interval `offset` falls, counted from the start of a cycle.
-#[tactic(auto, using(crate::proofs::Walk::found_here, crate::proofs::Walk::found_later, crate::proofs::Walk::found_none))]
+#[tactic(auto, using(crate::proofs::Walk::seen_here, crate::proofs::Walk::seen_later, crate::proofs::Walk::seen_none))]
 fn find(entries: &[[u8; sizes::ENTRY]], time: u64, offset: u64) -> Option<Found>
     requires { offset ≤ time }
     ensures { result ≡ found_of time (map entry_in entries.now) 0 offset }

@@ -1,5 +1,5 @@
 -- What a range test that held tells, and what a meter keeps.
-use Rattle.std.specs.Prelude.{ℕ, ◌≤◌, ◌^◌, true, ◌≡◌}
+use Rattle.std.specs.Prelude.{ℕ, ◌≤◌, ◌^◌, true, ◌&&◌, ◌≡◌, leb}
 use Rattle.std.proofs.Common.{leb-true, le-leb}
 use Rattle.logic.specs.Laws.{conjuncts}
 use Rattle.bucket.specs.Meaning.{grains}
@@ -27,6 +27,14 @@ pub record InRange (m : Meter) (time : ℕ) (msdu : Octets) : Type 0 where
 pub record Ready (m : Meter) (time : ℕ) : Type 0 where
   pub sound : Sound m
   pub later : m.last ≤ time
+
+-- the test of the bursts alone, by which the products of the others are safe
+pub record Bursts (cbs ebs : ℕ) : Type 0 where
+  pub cbs_high : cbs ≤ 1_000_000
+  pub ebs_high : ebs ≤ 1_000_000
+
+pub bursts : (cbs ebs : ℕ) → (leb cbs 1_000_000 && leb ebs 1_000_000) ≡ true → Bursts cbs ebs
+bursts cbs ebs e = record { cbs_high = leb-true cbs 1_000_000 (search conjuncts); ebs_high = leb-true ebs 1_000_000 (search conjuncts) }
 
 pub in_range : (m : Meter) (time : ℕ) (msdu : Octets) → meter_in_range m time msdu ≡ true → InRange m time msdu
 unfolding meter_in_range

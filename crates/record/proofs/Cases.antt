@@ -25,18 +25,18 @@ module _ (s : List ℕ) (started : Bool) (k : Kind) (said : kind_named (get_or s
   read_known : read_of s started ≡ read_as (some k) started s
   read_known = read_by_kind s started k (known_is (kind_of (get_or s 0 0)) k said)
 
-  pub read_cut : length s < record_length k → read_of s started ≡ Err CutShort
+  pub known_cut : length s < record_length k → read_of s started ≡ Err CutShort
   unfolding read_as
-  read_cut h = read_known ∙ rw (lt-leb (record_length k) (length s) h)
+  known_cut h = read_known ∙ rw (lt-leb (record_length k) (length s) h)
 
   module _ (whole : record_length k ≤ length s) where
     pub read_out_of_turn : in_turn_of k started ≡ false → read_of s started ≡ Err OutOfTurn
     unfolding read_as
     read_out_of_turn t = read_known ∙ rw (le-leb (record_length k) (length s) whole, t)
 
-    pub read_whole : in_turn_of k started ≡ true → read_of s started ≡ whole_of k s
+    pub known_whole : in_turn_of k started ≡ true → read_of s started ≡ whole_of k s
     unfolding read_as
-    read_whole t = read_known ∙ rw (le-leb (record_length k) (length s) whole, t)
+    known_whole t = read_known ∙ rw (le-leb (record_length k) (length s) whole, t)
 
 -- ---- octets that are no kind
 
@@ -93,25 +93,35 @@ number_halves s at high low h l =
 
 -- ---- by how many octets the first one asks for, 0 where it says no kind
 
+-- what a record that is whole and in its turn gives, by what its octet says
+abbrev pub whole_in : Option Kind → List ℕ → Reading
+whole_in none s = Err UnknownKind
+whole_in (some k) s = whole_of k s
+
 module _ (started : Bool) (s : List ℕ) where
   unknown_as : (o : Option Kind) → length_in o ≡ 0 → read_as o started s ≡ Err UnknownKind
   unfolding read_as
   unknown_as none e = refl
   unknown_as (some k) e = absurd (omega (arith, length_positive k))
 
+  cut_as : (o : Option Kind) → (length_in o ≡ 0 → ⊥) → length s < length_in o → read_as o started s ≡ Err CutShort
+  unfolding read_as
+  cut_as none n h = absurd (n refl)
+  cut_as (some k) n h = rw (lt-leb (record_length k) (length s) h)
+
   turn_as : (o : Option Kind) → (length_in o ≡ 0 → ⊥) → length_in o ≤ length s → in_turn_in o started ≡ false → read_as o started s ≡ Err OutOfTurn
   unfolding read_as
   turn_as none n h e = absurd (n refl)
   turn_as (some k) n h e = rw (le-leb (record_length k) (length s) h, e)
 
+  whole_as : (o : Option Kind) → (length_in o ≡ 0 → ⊥) → length_in o ≤ length s → in_turn_in o started ≡ true → read_as o started s ≡ whole_in o s
+  unfolding read_as
+  whole_as none n h e = absurd (n refl)
+  whole_as (some k) n h e = rw (le-leb (record_length k) (length s) h, e)
+
 -- an octet that is the number k says what k says
 pub enough : (n k m : ℕ) → n ≡ k → length_in (kind_of n) ≤ m → length_in (kind_of k) ≤ m
 enough n k m e h = rw e at h
-
--- what a record that is whole and in its turn gives, by what its octet says
-abbrev pub whole_in : Option Kind → List ℕ → Reading
-whole_in none s = Err UnknownKind
-whole_in (some k) s = whole_of k s
 
 pub whole_is : (n k : ℕ) (s : List ℕ) (r : Reading) → n ≡ k → r ≡ whole_in (kind_of k) s → r ≡ whole_in (kind_of n) s
 whole_is n k s r e h = rw e h
@@ -131,8 +141,16 @@ module _ (s : List ℕ) (started : Bool) (some-octet : length s ≡ 0 → ⊥) w
   pub read_unknown : (u : ℕ) → u ≡ length_in (kind_of (get_or s 0 0)) → u ≡ 0 → read_of s started ≡ Err UnknownKind
   read_unknown u e z = read_first s started some-octet ∙ unknown_as _ s (kind_of (get_or s 0 0)) (sym e ∙ z)
 
-  pub read_turn : (u : ℕ) → u ≡ length_in (kind_of (get_or s 0 0)) → (u ≡ 0 → ⊥) → u ≤ length s → in_turn_in (kind_of (get_or s 0 0)) started ≡ false → read_of s started ≡ Err OutOfTurn
-  read_turn u e known whole t = read_first s started some-octet ∙ turn_as _ s (kind_of (get_or s 0 0)) (λ z. known (e ∙ z)) (rw e at whole) t
+  module _ (u : ℕ) (e : u ≡ length_in (kind_of (get_or s 0 0))) (known : u ≡ 0 → ⊥) where
+    pub read_cut : length s < u → read_of s started ≡ Err CutShort
+    read_cut h = read_first s started some-octet ∙ cut_as _ s (kind_of (get_or s 0 0)) (λ z. known (e ∙ z)) (rw e at h)
+
+    module _ (whole : u ≤ length s) where
+      pub read_turn : in_turn_in (kind_of (get_or s 0 0)) started ≡ false → read_of s started ≡ Err OutOfTurn
+      read_turn t = read_first s started some-octet ∙ turn_as _ s (kind_of (get_or s 0 0)) (λ z. known (e ∙ z)) (rw e at whole) t
+
+      pub read_whole : in_turn_in (kind_of (get_or s 0 0)) started ≡ true → read_of s started ≡ whole_in (kind_of (get_or s 0 0)) s
+      read_whole t = read_first s started some-octet ∙ whole_as _ s (kind_of (get_or s 0 0)) (λ z. known (e ∙ z)) (rw e at whole) t
 
 -- ---- the body
 

@@ -94,13 +94,21 @@ module _ (n : ℕ) where
 -- ---- the report
 
 module _ (table : List ℕ) (n : ℕ) (name : List ℕ) (value : ℕ) where
-  pub item_none : value ≡ 0 → item_of table n name value ≡ []
+  pub item_empty : value ≡ 0 → item_of table n name value ≡ []
   unfolding item_of
-  item_none e = rw (eq-eqb value 0 e)
+  item_empty e = rw (eq-eqb value 0 e)
 
-  pub item_some : (value ≡ 0 → ⊥) → item_of table n name value ≡ table ++ digits_of n ++ name ++ digits_of value ++ ascii "\n"
+  pub item_line : (value ≡ 0 → ⊥) → item_of table n name value ≡ table ++ digits_of n ++ name ++ digits_of value ++ ascii "\n"
   unfolding item_of
-  item_some h = rw (ne_eqb value 0 h)
+  item_line h = rw (ne_eqb value 0 h)
+
+module _ (p q : Page) (table : List ℕ) (n : ℕ) (name : List ℕ) (value : ℕ) where
+  pub item_none : value ≡ 0 → p ≡ written p (item_of table n name value)
+  unfolding written
+  item_none e = sym (ap (written p) (item_empty table n name value e))
+
+  pub item_some : (value ≡ 0 → ⊥) → q ≡ written p (table ++ digits_of n ++ name ++ digits_of value ++ ascii "\n") → q ≡ written p (item_of table n name value)
+  item_some h e = e ∙ sym (ap (written p) (item_line table n name value h))
 
 module _ (f : ℕ → List ℕ) (p : Page) where
   pub up_none : p ≡ written p (up_to f 0)
@@ -118,4 +126,4 @@ module _ (f : ℕ → List ℕ) (p : Page) where
   up_last q i n l m e = e ∙ ap (λ (k : ℕ). written p (up_to f k)) (omega (arith, l, m))
 
 -- one thing put after another, octets and texts
-pub ruleset puts = (written_append, written_more, digits_one, digits_two, digits_pair, item_none, item_some, up_more)
+pub ruleset puts = (written_append, written_more, digits_one, digits_two, digits_pair, item_empty, item_line, up_more)
