@@ -13,7 +13,8 @@ use gate::Gate;
 use meter::Meter;
 use scheduler::Scheduler;
 
-// Kept: a plain struct and no `impl Model`. Contracts read it as its rows, and those are a function, which no `Value` can be.
+// Kept: a plain struct and no `impl Model`. Contracts read it as its rows, which are a function, and that no `Value` can be; with its words as a
+// list for the value each clause would say `rows_in` where it says `rows_of`.
 #[repr(C)]
 #[derive(Clone, Copy)]
 pub struct Bank {
@@ -26,7 +27,7 @@ pub type Lists = [u8; sizes::LISTS];
 // What is the bridge component's own, and no table's.
 #[derive(Clone, Copy)]
 pub struct Component {
-    // Traffic classes; 0 before start.
+    // Traffic classes; 0 before start. Kept: the word that C lends, of which 0 is memory of zeros (`fresh_is_zeros`).
     pub classes: u64,
     // The time of the last taken arrival, in ns; 0 if none.
     pub clock: u64,
@@ -36,6 +37,7 @@ pub struct Component {
 
 #[derive(Clone, Copy)]
 pub struct Port {
+    // Kept: a flag and no Option around the rest: a port without a record counts discarded frames, too (`port`, specs/Meaning.antt).
     pub set: bool,
     // In octets.
     pub overhead: u8,
@@ -58,6 +60,7 @@ pub struct Counters {
 // A scheduler group.
 #[derive(Clone, Copy)]
 pub struct Group {
+    // Kept: a flag and no Option: the words of a group that is not set up are read as they stand (`group`, specs/Meaning.antt).
     pub set: bool,
     // The most that a frame may wait, in ns.
     pub residence: u64,
@@ -283,6 +286,7 @@ impl Bank {
     }
 
     // The record of the gate is taken. Its state, and the count of its entries, which may have come first, stay.
+    // Kept: a parameter for each word that the record sets (`with_gate`): a `Gate` has others, which stay.
     // Ruled out: a store into the row of a filter; the count lost.
     pub fn set_up_gate(
         &mut self,

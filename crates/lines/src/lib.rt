@@ -11,6 +11,7 @@ use record::Record;
 use text::Page;
 
 // The line of a record. A filter's any-handle and its handle are written as one.
+// Kept: put on a page and no Display, for the reason that stands at text's `Page`.
 // Ruled out: the name of another kind; the number 8 for the word null.
 pub fn put_line<const N: usize>(page: &mut Page<N>, r: Record)
     ensures { page.new ≡ written page.old (line_of r) }

@@ -18,6 +18,7 @@ pub enum Failure {
 
 // Reads once where the octets that are kept do not suffice (`starved`), behind them. Answers how many there are then: no more than before at
 // the end of the input. What is kept stays, also where the read fails.
+// Kept: a buffer and a count, here and in `keep`: the contracts (`Filled`, `kept_of`) speak of any buffer that is lent and of any count.
 // Ruled out: the octets that are kept overwritten; what was read taken for all that is there.
 pub fn fill<R: Read>(
     input: &mut R,

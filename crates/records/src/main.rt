@@ -44,6 +44,7 @@ impl Printer {
         input: &mut R,
         output: &mut W,
     ) -> Result<(), Stop> {
+        // Kept: a buffer with its count beside, as `pieces::fill` and `keep` speak of them (`Filled`, `kept_of`).
         let mut buf = [0u8; 65536];
         let mut kept = 0;
         for _ in 0..u64::MAX {
@@ -67,7 +68,7 @@ impl Printer {
         last: bool,
     ) -> Result<usize, Stop> {
         let mut at = 0;
-        // Kept: a step is as long as the record that was read, which no iterator of the library's takes.
+        // Kept: a step is as long as the record that was read; a `for` over the octets would have a turn for each and a test in it.
         while at < piece.len() {
             match record::read(&piece[at..], self.started) {
                 Ok((r, used)) => {

@@ -25,7 +25,7 @@ pub struct Progress {
     pub refusal: Option<Refusal>,
     // Whether no line is printed for an arrival.
     pub quiet: bool,
-    // Whether the run goes on: no refusal yet, and room for another line.
+    // Whether the run goes on: no refusal yet, and room for another line. Kept: two questions, since a full page is no refusal (`Stops`).
     pub more: bool,
 }
 
@@ -58,6 +58,7 @@ pub fn again(p: Progress) -> Progress
 }
 
 // One `stage::take` for each record, from octet `from.at` of the input on.
+// Kept: what C lends comes one by one, as at `stage::take`, and the page and the progress are the caller's.
 // Ruled out: a record skipped; a record taken after a refusal; the table as it was; the progress of another piece.
 pub fn run<const N: usize>(
     table: &mut [Filter],

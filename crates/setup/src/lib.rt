@@ -85,6 +85,7 @@ pub fn add_entry(
 }
 
 // The octets of a body, kept at `at`; 0 for one past its end.
+// Kept: a place in the lists, which C lends as one array; the library says nothing of an array after a part of it is lent (`get_mut`).
 fn keep(lists: &mut Lists, at: usize, body: &[u8])
     requires { at + entry_octets ≤ lists_octets }
     ensures { lists.new ≡ entry_kept lists.old at body.now }

@@ -13,7 +13,7 @@ use record::{Record, Refusal};
 use verdict::{Outcome, Taken};
 
 // One record of `input`.
-// Kept: table, bank and lists are lent one by one, here and below, as C lends them; a struct of the three would hold references that change.
+// Kept: table, bank and lists are lent one by one, here and in `path`, `setup`, `run` and `stream`, as C lends them to `transomrib_take`.
 // Ruled out: a refusal that uses octets or changes anything; the row of another filter written.
 #[tactic(auto, unfolding(crate::specs::Meaning::take_of, crate::specs::Meaning::read_by, crate::specs::Meaning::taken_of, record::specs::Meaning::body_of))]
 pub fn take(

@@ -116,7 +116,7 @@ struct Stream {
     buffer: [u8; 65536],
     page: Page<204800>,
     // Octets at the front of the buffer that are not taken yet, and those that were taken before them.
-    // Kept: a buffer with its length beside, since nothing allocates and a page is for what is put.
+    // Kept: a buffer with its count beside, as `pieces::fill` and `keep` speak of them (`Filled`, `kept_of`).
     kept: usize,
     octets: u64,
     progress: Progress,

@@ -1,4 +1,5 @@
 // What a C program links: the functions of `transomrib` under their own names, as include/transomrib.h declares them.
+// Kept: each says again what it calls, since an export for C is a function with a contract of its own.
 #![tactic(auto)]
 
 ghost use Rattle.std.specs.Prelude.{◌≡◌};

@@ -45,6 +45,7 @@ pub struct Pass {
 }
 
 // What came of a record that was taken.
+// Kept: three cases by name. A drop is no error of the call, and `said` and `answer_of` make document 01's verdict of each.
 #[derive(Clone, Copy)]
 pub enum Outcome {
     // A record that is no arrival.
