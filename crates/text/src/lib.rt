@@ -53,14 +53,6 @@ impl<const N: usize> Page<N> {
         &self.octets[..self.filled.min(N)]
     }
 
-    // How many octets are put.
-    // Ruled out: how many there may be; one more.
-    pub fn len(&self) -> usize
-        ensures { result ≡ self.now.filled }
-    {
-        self.filled
-    }
-
     // How many octets still have a place.
     // Ruled out: how many are put; how many there may be in all.
     pub fn room(&self) -> usize
