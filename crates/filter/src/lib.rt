@@ -180,8 +180,9 @@ impl Filter {
     }
 
     // 01, refusal 7.
+    // Ruled out: a row that names a gate with a record; the meter of a row that names none.
     #[tactic(auto, unfolding(crate::specs::Meaning::names_missing))]
-    fn names_missing(&self, bank: &Bank) -> bool
+    pub fn names_missing(&self, bank: &Bank) -> bool
         ensures { result ≡ names_missing (rows_of bank.now) self.now }
     {
         !bank.gate_set(self.gate as usize)
@@ -190,8 +191,9 @@ impl Filter {
     }
 
     // 01, refusal 8.
+    // Ruled out: a scheduler and no max SDU let through; the burst of another scheduler.
     #[tactic(auto, unfolding(crate::specs::Meaning::exceeds_burst))]
-    fn exceeds_burst(&self, bank: &Bank) -> bool
+    pub fn exceeds_burst(&self, bank: &Bank) -> bool
         ensures { result ≡ exceeds_burst (rows_of bank.now) self.now }
     {
         let burst = bank.burst_at(self.scheduler as usize);
