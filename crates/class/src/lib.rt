@@ -23,7 +23,7 @@ const CLASSES: [[u8; 8]; 8] = [
 pub fn traffic_class(priority: u8, classes: u8) -> Option<u8>
     ensures { result ≡ traffic_class_of priority classes }
 {
-    if (priority <= 7) & (1 <= classes) & (classes <= 8) {
+    if (priority <= 7) & (1..=8).contains(&classes) {
         Some(CLASSES[priority as usize][(classes - 1) as usize])
     } else {
         None

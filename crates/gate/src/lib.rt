@@ -34,7 +34,8 @@ pub struct Entry {
     pub opened: bool,
     pub ipv: u8,
     pub interval: u64,
-    // 2^32 - 1 is no limit. Kept: the number of the octets that C lends, which `entry_at` gives.
+    // 2^32 - 1 is no limit.
+    // Kept: a number, as `entry_at` and the laws of the walk (`found_here`) have it.
     pub maximum: u64,
 }
 
@@ -62,6 +63,7 @@ pub struct Found {
 }
 
 // What becomes of a frame. `gate_number_of` in specs/ has document 01's number for each case.
+// Kept: a drop of the gate is an outcome and no Err: `gate_step_of`, `gate_number_of` and the laws on them (`passed_at_most_left`) speak of it so.
 #[derive(Clone, Copy)]
 pub enum Outcome {
     // With the IPV in force, 8 null.
@@ -94,7 +96,50 @@ pub fn step(gate: Gate, list: &[u8], time: u64, msdu: u64) -> Stepped
     if gate.invalid_receive_flag | gate.octets_flag {
         return Stepped::new(gate, Outcome::Blocked);
     }
-    pass(gate, in_force(list, gate.base, time), msdu)
+    gate.pass(in_force(list, gate.base, time), msdu)
+}
+
+impl Gate {
+    // With no flag, by what is in force.
+    #[tactic(auto, unfolding(crate::specs::Meaning::passed_of))]
+    fn pass(self, here: Option<Found>, msdu: u64) -> Stepped
+        ensures { result ≡ passed_of self here msdu }
+    {
+        match here {
+            None if self.opened => Stepped::new(self, Outcome::Passed(self.ipv)),
+            Some(found) if found.entry.opened => self.limit(found, msdu),
+            _ => self.close(),
+        }
+    }
+
+    fn close(mut self) -> Stepped
+        ensures { result ≡ closed_of self }
+    {
+        self.invalid_receive_flag |= self.invalid_receive_block;
+        Stepped::new(self, Outcome::Closed)
+    }
+
+    // An open entry, by the octets left.
+    #[tactic(auto, unfolding(crate::specs::Meaning::limited_of, crate::specs::Meaning::spent_of))]
+    fn limit(mut self, found: Found, msdu: u64) -> Stepped
+        ensures { result ≡ limited_of self found msdu }
+    {
+        let Found { start, entry, .. } = found;
+        let passed = Outcome::Passed(entry.ipv);
+        if entry.maximum == u64::from(u32::MAX) {
+            return Stepped::new(self, passed);
+        }
+        let spent = if self.since == start { self.spent } else { 0 };
+        // A count above the maximum, which no frame has written, leaves nothing.
+        let left = entry.maximum.saturating_sub(spent);
+        if msdu > left {
+            self.octets_flag |= self.octets_block;
+            return Stepped::new(self, Outcome::TooManyOctets);
+        }
+        self.since = start;
+        self.spent = spent + msdu;
+        Stepped::new(self, passed)
+    }
 }
 
 // The entry in force at `time`, if any.
@@ -112,47 +157,6 @@ pub fn in_force(list: &[u8], base: u64, time: u64) -> Option<Found>
     // A cycle of 0 takes nothing off.
     let offset = if cycle == 0 { since } else { since % cycle };
     find(entries, time, offset)
-}
-
-// A gate with no flag, by what is in force.
-#[tactic(auto, unfolding(crate::specs::Meaning::passed_of))]
-fn pass(gate: Gate, here: Option<Found>, msdu: u64) -> Stepped
-    ensures { result ≡ passed_of gate here msdu }
-{
-    match here {
-        None if gate.opened => Stepped::new(gate, Outcome::Passed(gate.ipv)),
-        Some(found) if found.entry.opened => limit(gate, found, msdu),
-        _ => close(gate),
-    }
-}
-
-fn close(mut gate: Gate) -> Stepped
-    ensures { result ≡ closed_of gate }
-{
-    gate.invalid_receive_flag |= gate.invalid_receive_block;
-    Stepped::new(gate, Outcome::Closed)
-}
-
-// An open entry, by the octets left.
-#[tactic(auto, unfolding(crate::specs::Meaning::limited_of, crate::specs::Meaning::spent_of))]
-fn limit(mut gate: Gate, found: Found, msdu: u64) -> Stepped
-    ensures { result ≡ limited_of gate found msdu }
-{
-    let Found { start, entry, .. } = found;
-    let passed = Outcome::Passed(entry.ipv);
-    if entry.maximum == u64::from(u32::MAX) {
-        return Stepped::new(gate, passed);
-    }
-    let spent = if gate.since == start { gate.spent } else { 0 };
-    // A count above the maximum, which no frame has written, leaves nothing.
-    let left = entry.maximum.saturating_sub(spent);
-    if msdu > left {
-        gate.octets_flag |= gate.octets_block;
-        return Stepped::new(gate, Outcome::TooManyOctets);
-    }
-    gate.since = start;
-    gate.spent = spent + msdu;
-    Stepped::new(gate, passed)
 }
 
 // The whole entries of a list, of which the first eight count, each as its octets.
