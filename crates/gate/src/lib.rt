@@ -7,7 +7,7 @@
 ghost use Rattle.std.specs.Prelude.{◌≡◌, ◌^◌, ◌<◌, ◌≤◌, length, map};
 ghost use Rattle.sizes.specs.Meaning.{entry_count};
 ghost use Rattle.gate.specs.Entries.{entry_in};
-ghost use Rattle.gate.specs.Meaning.{word_of, entries_of, cycle_of, found_of, in_force_of, gate_answer, closed_of, limited_of, passed_of, gate_step_of};
+ghost use Rattle.gate.specs.Meaning.{entry_at, word_of, entries_of, cycle_of, found_of, in_force_of, gate_answer, closed_of, limited_of, passed_of, gate_step_of};
 
 // A gate as its record sets it up (01, kind 3), with its flags and its count. All zeros but for the record's fields is a
 // fresh gate.
@@ -42,7 +42,7 @@ pub struct Entry {
 // From the octets of its record.
 // Ruled out: a state other than 1 is closed; the octet maximum is read where the interval stands.
 impl From<&[u8; sizes::ENTRY]> for Entry {
-    ghost from_gives = { λ octets r. r ≡ entry_in octets.now };
+    ghost from_gives = { λ octets r. r ≡ entry_at octets.now 0 };
 
     fn from(octets: &[u8; sizes::ENTRY]) -> Entry {
         Entry {
