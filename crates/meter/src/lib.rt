@@ -106,9 +106,11 @@ impl Meter {
     fn in_range(self, time: u64, msdu: Octets) -> bool
         ensures { result ≡ meter_in_range self time msdu }
     {
-        (self.cbs.0 <= 1_000_000) & (self.ebs.0 <= 1_000_000)
-            && (self.committed <= bucket::full(self.cbs))
-                & (self.excess <= bucket::full(self.ebs))
+        let cbs = self.cbs.0 as u64;
+        let ebs = self.ebs.0 as u64;
+        (cbs <= 1_000_000) & (ebs <= 1_000_000)
+            && (self.committed <= cbs * bucket::GRAINS)
+                & (self.excess <= ebs * bucket::GRAINS)
                 & (self.cir.0 <= 10_000_000_000)
                 & (self.eir.0 <= 10_000_000_000)
                 & (self.last <= 4_611_686_018_427_387_904)
@@ -123,8 +125,8 @@ impl Meter {
         ensures { result ≡ filled_of self time }
     {
         let d = time - self.last;
-        let cbs = bucket::full(self.cbs);
-        let ebs = bucket::full(self.ebs);
+        let cbs = (self.cbs.0 as u64) * bucket::GRAINS;
+        let ebs = (self.ebs.0 as u64) * bucket::GRAINS;
         let committed = bucket::grow(self.committed, self.cir, cbs + ebs, d);
         let excess = bucket::grow(self.excess, self.eir, ebs, d);
         let over = if self.coupling {

@@ -66,7 +66,7 @@ impl Scheduler {
         if o.arrival + o.residence < at {
             return Outcome::Dropped;
         }
-        let full = bucket::full(self.burst);
+        let full = (self.burst.0 as u64) * bucket::GRAINS;
         self.level = bucket::grow(self.level, self.rate, full, at - self.last) - need;
         self.last = at;
         Outcome::Admitted { at }
@@ -89,7 +89,7 @@ impl Scheduler {
         let octets = self.burst.0 as u64;
         octets <= 1_000_000
             && (1 <= octets)
-                & (self.level <= bucket::full(self.burst))
+                & (self.level <= octets * bucket::GRAINS)
                 & (o.length.0 as u64 <= octets)
                 & (1 <= self.rate.0)
                 & (self.rate.0 <= 10_000_000_000)
