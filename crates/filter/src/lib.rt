@@ -191,7 +191,7 @@ impl Filter {
     }
 
     // 01, refusal 8.
-    // Ruled out: a scheduler and no max SDU let through; the burst of another scheduler.
+    // Ruled out: a scheduler and no max SDU let through; a max SDU that the burst just holds refused.
     #[tactic(auto, unfolding(crate::specs::Meaning::exceeds_burst))]
     pub fn exceeds_burst(&self, bank: &Bank) -> bool
         ensures { result ≡ exceeds_burst (rows_of bank.now) self.now }
