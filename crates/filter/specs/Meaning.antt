@@ -1,7 +1,6 @@
 -- What a row of the filter table says (01, Records, kind 2 and the filter table's paragraph), which rows start refuses (01, refusals 7 and 8),
 -- and which row a frame uses (01, A frame's path, step 1).
-use Rattle.std.specs.Prelude.{ℕ, zero, suc, ◌+◌, ◌-◌, Bool, true, not, ◌&&◌, ◌||◌, cond, List, eqb, leb, ltb, get_or, Option, Some, None, is_some, is_none, unwrap_or}
-use mir.Val.{bool_byte}
+use Rattle.std.specs.Prelude.{ℕ, zero, suc, ◌+◌, ◌-◌, Bool, true, not, ◌&&◌, ◌||◌, cond, List, eqb, leb, ltb, get_or, Option, Some, None, is_some}
 use Rattle.sizes.specs.Meaning.{filter_count, last_gate, last_meter, last_scheduler}
 use Rattle.frame.specs.Meaning.{length_of}
 use Rattle.record.specs.declared.FilterRecord.{FilterRecord}
@@ -20,13 +19,13 @@ no_row = record { handle = 0; max_sdu = 0; used = 0; any_handle = 0; priority = 
 abbrev pub filter_of : FilterRecord → Filter
 filter_of r =
     record {
-      handle = unwrap_or r.handle 0;
+      handle = r.handle;
       max_sdu = r.max_sdu;
       used = 1;
-      any_handle = bool_byte (is_none r.handle);
+      any_handle = r.any_handle;
       priority = r.priority;
       gate = r.gate;
-      oversize_block = bool_byte r.oversize_block;
+      oversize_block = r.oversize_block;
       meter = r.meter;
       scheduler = r.scheduler;
     }

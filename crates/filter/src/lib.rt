@@ -49,13 +49,13 @@ impl From<FilterRecord> for Filter {
 
     fn from(r: FilterRecord) -> Filter {
         Filter {
-            handle: r.handle.unwrap_or(0),
+            handle: r.handle,
             max_sdu: r.max_sdu,
             used: 1,
-            any_handle: r.handle.is_none() as u8,
+            any_handle: r.any_handle,
             priority: r.priority,
             gate: r.gate,
-            oversize_block: r.oversize_block as u8,
+            oversize_block: r.oversize_block,
             meter: r.meter,
             scheduler: r.scheduler,
         }

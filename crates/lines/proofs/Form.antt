@@ -1,7 +1,6 @@
 -- Laws of a form: what its octets, its marks and what is left of it come to.
-use Rattle.std.specs.Prelude.{ℕ, ◌+◌, ◌<◌, ◌≤◌, Bool, false, cond, ◌&&◌, ◌||◌, ◌≡◌, ltb, eqb, drop, Option, Some, None, is_none, unwrap_or}
+use Rattle.std.specs.Prelude.{ℕ, ◌+◌, ◌<◌, ◌≤◌, Bool, false, cond, ◌&&◌, ◌||◌, ◌≡◌, ltb, eqb, drop}
 use Prim.Native.Char.{code}
-use mir.Val.{bool_byte}
 use Rattle.std.specs.Char.{is_ascii_uppercase}
 use Rattle.std.proofs.Math.Bool.{true}
 use mathlib.Core.List.{List, [], ◌∷◌, ◌++◌, append_assoc}
@@ -56,12 +55,11 @@ module _ (c v : ℕ) where
   unfolding shown_as
   shown_number e f g = rw (e, f, ← joined, g)
 
--- the octet that says any, and the handle
 module _ (any handle : ℕ) where
-  pub handle_any : any ≡ 1 → ascii "any" ≡ handle_as (cond (eqb any 1) None (Some handle))
+  pub handle_any : any ≡ 1 → ascii "any" ≡ handle_as any handle
   handle_any e = rw (eq-eqb any 1 e)
 
-  pub handle_number : (any ≡ 1 → ⊥) → digits_of handle ≡ handle_as (cond (eqb any 1) None (Some handle))
+  pub handle_number : (any ≡ 1 → ⊥) → digits_of handle ≡ handle_as any handle
   handle_number n = rw (ne_eqb any 1 n)
 
 -- ---- the form from place i on, put on a page: a mark with a value, an octet that is no mark, and any octet where no value is left
@@ -124,15 +122,10 @@ module _ (p q : Page) (form values : List ℕ) (i k : ℕ) (l : i < length form)
 
 -- ---- the line of a filter: a form, its handle, a form
 
--- the two values of a handle, in its column
-handle_shown : (handle : Option ℕ) → cond (eqb (bool_byte (is_none handle)) 1) (ascii "any") (digits_of (unwrap_or handle 0)) ≡ handle_as handle
-handle_shown None = refl
-handle_shown (Some n) = refl
-
 pub filter_parts : (r : FilterRecord)
     → filled_in (ascii "filter id=N handle=") (r.id ∷ [])
-    ++ (handle_as r.handle
-    ++ filled_in (ascii " priority=A gate=N max-sdu=Z oversize-block=N meter=L scheduler=L\n") (r.priority ∷ r.gate ∷ r.max_sdu ∷ bool_byte r.oversize_block ∷ r.meter ∷ r.scheduler ∷ []))
+    ++ (handle_as r.any_handle r.handle
+    ++ filled_in (ascii " priority=A gate=N max-sdu=Z oversize-block=N meter=L scheduler=L\n") (r.priority ∷ r.gate ∷ r.max_sdu ∷ r.oversize_block ∷ r.meter ∷ r.scheduler ∷ []))
     ≡ line_of (Filter r)
 unfolding line_of filled_in shown_as
-filter_parts r = rw (← handle_shown r.handle) (ap (λ (z : List ℕ). ascii "filter id=" ++ z) (append_assoc (digits_of r.id) (label_of "handle") _))
+filter_parts r = ap (λ (z : List ℕ). ascii "filter id=" ++ z) (append_assoc (digits_of r.id) (label_of "handle") _)

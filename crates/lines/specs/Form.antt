@@ -1,5 +1,5 @@
 -- What the code writes a line from: a form, a text in which capital letters, its marks, stand for values.
-use Rattle.std.specs.Prelude.{ℕ, cond, ◌&&◌, eqb, Option, Some, None}
+use Rattle.std.specs.Prelude.{ℕ, cond, ◌&&◌, eqb}
 use Rattle.std.specs.Char.{is_ascii_uppercase}
 use Prim.Native.Char.{code}
 use mathlib.Core.List.{List, [], ◌∷◌, ◌++◌}
@@ -13,9 +13,8 @@ shown_as c v =
     (cond (eqb c (code "Z") && eqb v 0) (ascii "none") (cond (eqb c (code "L") && eqb v 255) (ascii "none") (cond (eqb c (code "M") && eqb v 4_294_967_295) (ascii "none") (digits_of v)))))
 
 -- the handle of a filter
-abbrev pub handle_as : Option ℕ → List ℕ
-handle_as None = ascii "any"
-handle_as (Some handle) = digits_of handle
+abbrev pub handle_as : ℕ → ℕ → List ℕ
+handle_as any handle = cond (eqb any 1) (ascii "any") (digits_of handle)
 
 -- a form, its marks in turn replaced by the values, as far as these go
 unfoldable pub filled_in : List ℕ → List ℕ → List ℕ

@@ -1,12 +1,10 @@
 -- The text form of records, one a line (docs/TEXT.md): the one table of the kinds' names, of their fields' names and of how a value is written.
-use Rattle.std.specs.Prelude.{ℕ, cond, List, [], ◌∷◌, ◌++◌, eqb, is_none, unwrap_or}
-use mir.Val.{bool_byte}
+use Rattle.std.specs.Prelude.{ℕ, cond, List, [], ◌∷◌, ◌++◌, eqb}
 use Prim.Native.String.{String}
 use Rattle.record.specs.declared.Kind.{Kind}
 use Rattle.record.specs.declared.Kind.TheVariants.{Port as port, Filter as filter, Gate as gate, GateEntry as gate_entry, Meter as meter, Group as group, Scheduler as scheduler, Start as start, Arrival as arrival, Clear as clear}
 use Rattle.record.specs.declared.Record.{Record}
 use Rattle.record.specs.declared.Record.TheVariants.{Port, Filter, Gate, GateEntry, Meter, Group, Scheduler, Start, Arrival, Clear}
-use Rattle.record.specs.Meaning.{flag_number_of}
 use Rattle.text.specs.Meaning.{ascii, digits_of}
 
 -- ---- the table
@@ -64,16 +62,16 @@ kind_in (Clear r) = clear
 abbrev pub values_of : Record → List ℕ
 values_of (Port r) = r.port ∷ r.overhead ∷ []
 values_of (Filter r) =
-    r.id ∷ bool_byte (is_none r.handle) ∷ unwrap_or r.handle 0 ∷ r.priority ∷ r.gate ∷ r.max_sdu ∷ bool_byte r.oversize_block ∷ r.meter ∷ r.scheduler ∷ []
-values_of (Gate r) = r.id ∷ bool_byte r.opened ∷ r.ipv ∷ bool_byte r.invalid_receive_block ∷ bool_byte r.octets_block ∷ r.base_time ∷ []
-values_of (GateEntry r) = r.gate ∷ bool_byte r.opened ∷ r.ipv ∷ r.interval ∷ r.octet_maximum ∷ []
+    r.id ∷ r.any_handle ∷ r.handle ∷ r.priority ∷ r.gate ∷ r.max_sdu ∷ r.oversize_block ∷ r.meter ∷ r.scheduler ∷ []
+values_of (Gate r) = r.id ∷ r.state ∷ r.ipv ∷ r.invalid_receive_block ∷ r.octets_block ∷ r.base_time ∷ []
+values_of (GateEntry r) = r.gate ∷ r.state ∷ r.ipv ∷ r.interval ∷ r.octet_maximum ∷ []
 values_of (Meter r) =
-    r.id ∷ r.cir.0 ∷ r.cbs.0 ∷ r.eir.0 ∷ r.ebs.0 ∷ bool_byte r.coupling ∷ bool_byte r.colour_aware ∷ bool_byte r.drop_on_yellow ∷ bool_byte r.red_block ∷ []
+    r.id ∷ r.cir.0 ∷ r.cbs.0 ∷ r.eir.0 ∷ r.ebs.0 ∷ r.coupling ∷ r.colour_aware ∷ r.drop_on_yellow ∷ r.red_block ∷ []
 values_of (Group r) = r.id ∷ r.residence ∷ []
 values_of (Scheduler r) = r.id ∷ r.group ∷ r.cir.0 ∷ r.cbs.0 ∷ []
 values_of (Start r) = r.classes ∷ []
-values_of (Arrival r) = r.port ∷ r.time ∷ r.handle ∷ r.priority ∷ bool_byte r.drop_eligible ∷ r.msdu ∷ []
-values_of (Clear r) = flag_number_of r.flag ∷ r.id ∷ []
+values_of (Arrival r) = r.port ∷ r.time ∷ r.handle ∷ r.priority ∷ r.drop_eligible ∷ r.msdu ∷ []
+values_of (Clear r) = r.flag ∷ r.id ∷ []
 
 -- ---- the line
 

@@ -24,7 +24,7 @@ pub fn put_line<const N: usize>(page: &mut Page<N>, r: Record)
         ),
         Record::Filter(r) => {
             put_form(page, b"filter id=N handle=", &[r.id as u64]);
-            put_handle(page, r.handle);
+            put_handle(page, r.any_handle, r.handle);
             put_form(
                 page,
                 b" priority=A gate=N max-sdu=Z oversize-block=N meter=L scheduler=L\n",
@@ -43,7 +43,7 @@ pub fn put_line<const N: usize>(page: &mut Page<N>, r: Record)
             b"gate id=N state=N ipv=U invalid-receive-block=N octets-block=N base-time=N\n",
             &[
                 r.id as u64,
-                r.opened as u64,
+                r.state as u64,
                 r.ipv as u64,
                 r.invalid_receive_block as u64,
                 r.octets_block as u64,
@@ -55,7 +55,7 @@ pub fn put_line<const N: usize>(page: &mut Page<N>, r: Record)
             b"gate-entry gate=N state=N ipv=U interval=N octet-maximum=M\n",
             &[
                 r.gate as u64,
-                r.opened as u64,
+                r.state as u64,
                 r.ipv as u64,
                 r.interval as u64,
                 r.octet_maximum as u64,
@@ -102,17 +102,18 @@ pub fn put_line<const N: usize>(page: &mut Page<N>, r: Record)
         Record::Clear(r) => put_form(
             page,
             b"clear flag=N id=N\n",
-            &[u8::from(r.flag) as u64, r.id as u64],
+            &[r.flag as u64, r.id as u64],
         ),
     }
 }
 
-fn put_handle<const N: usize>(page: &mut Page<N>, handle: Option<u32>)
-    ensures { page.new ≡ written page.old (handle_as handle) }
+fn put_handle<const N: usize>(page: &mut Page<N>, any: u8, handle: u32)
+    ensures { page.new ≡ written page.old (handle_as any handle) }
 {
-    match handle {
-        None => page.put_octets(b"any"),
-        Some(handle) => page.put_number(handle as u64),
+    if any == 1 {
+        page.put_octets(b"any");
+    } else {
+        page.put_number(handle as u64);
     }
 }
 

@@ -19,7 +19,7 @@ use Rattle.verdict.specs.declared.Drop.TheVariants as drop
 use Rattle.verdict.specs.Meaning.{Verdict, Refused, Dropped, told}
 use Rattle.path.specs.Meaning.{pass_of, sdu_failed, sdu_passed, offered_of, scheduled_by, scheduled_of, coloured_of, metered_by, metered_of, reached_of, gated_by, gated_of, sdu_filtered_of, arrival_of}
 
-module _ (s : Rows) (a : ArrivalRecord) (row : Filter) (priority : ℕ) (mark : Bool) where
+module _ (s : Rows) (a : ArrivalRecord) (row : Filter) (priority mark : ℕ) where
   pub scheduled_none : row.scheduler ≡ 255 → scheduled_of s a row priority mark ≡ told s (pass_of s priority mark None)
   unfolding scheduled_of
   scheduled_none h = rw (eq-eqb _ _ h)
@@ -30,7 +30,7 @@ module _ (s : Rows) (a : ArrivalRecord) (row : Filter) (priority : ℕ) (mark : 
   scheduled_by_lem h j ej r er o eo = rw (ne_eqb _ _ h, ← ej, ← er, eo)
 
 -- admitted: the scheduler is stored, then the group's last time, and the frame passes
-pub scheduled_admitted : (s s₁ s₂ : Rows) (a : ArrivalRecord) (i j priority : ℕ) (mark : Bool) (at : ℕ) (x : Scheduler) (v : Verdict) → s₁ ≡ with_scheduler_state s i x → s₂ ≡ with_group_last s₁ j at
+pub scheduled_admitted : (s s₁ s₂ : Rows) (a : ArrivalRecord) (i j priority mark at : ℕ) (x : Scheduler) (v : Verdict) → s₁ ≡ with_scheduler_state s i x → s₂ ≡ with_group_last s₁ j at
     → v ≡ pass_of s₂ priority mark (Some at) → told s₂ v ≡ scheduled_by s a i j priority mark x (Admitted at)
 unfolding scheduled_by
 scheduled_admitted s s₁ s₂ a i j priority mark at x v e₁ e₂ ev =

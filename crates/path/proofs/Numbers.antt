@@ -1,6 +1,6 @@
 -- One number for one drop: where a gate, a meter or a scheduler stops a frame, the verdict is a drop to which `drop_number_of` gives the number that the
 -- outcome has in its own crate. (A meter or a scheduler that refuses its numbers, with 3 or 9, stops no frame of document 01.)
-use Rattle.std.specs.Prelude.{Bool, ◌≡◌, ℕ, ◌⊎◌, List, ◌≢◌, refl}
+use Rattle.std.specs.Prelude.{◌≡◌, ℕ, ◌⊎◌, List, ◌≢◌, refl}
 use Rattle.std.proofs.Common.{inl, inr, arith, ne_eqb}
 use Rattle.gate.specs.declared.Outcome.{Outcome as GateOutcome}
 use Rattle.gate.specs.declared.Outcome.TheVariants.{Passed as Open, Blocked, Closed, TooManyOctets}
@@ -48,7 +48,7 @@ meter_drops s a f row priority OutOfRange n (inr k) e = absurd (omega arith)
 meter_drops s a f row priority TooEarly n (inl k) e = absurd (omega arith)
 meter_drops s a f row priority TooEarly n (inr k) e = absurd (omega arith)
 
-scheduler_drops : (s : Rows) (a : ArrivalRecord) (i j priority : ℕ) (mark : Bool) (x : Scheduler) (o : SchedulerOutcome) → scheduler_number_of o ≡ 8 → DropsWith (scheduled_by s a i j priority mark x o).verdict (scheduler_number_of o)
+scheduler_drops : (s : Rows) (a : ArrivalRecord) (i j priority mark : ℕ) (x : Scheduler) (o : SchedulerOutcome) → scheduler_number_of o ≡ 8 → DropsWith (scheduled_by s a i j priority mark x o).verdict (scheduler_number_of o)
 unfolding scheduled_by
 scheduler_drops s a i j priority mark x (Admitted at) e = absurd (omega arith)
 scheduler_drops s a i j priority mark x Late e = record { why = drop.Residence; dropped = refl; number = refl }
@@ -69,7 +69,7 @@ unfolding metered_of
 meter_number s a f row priority named h = rw (ne_eqb _ _ named) (meter_drops _ a f row priority (coloured_of s a row.meter).outcome _ h refl)
 
 -- 8
-pub scheduler_number : (s : Rows) (a : ArrivalRecord) (row : Filter) (priority : ℕ) (mark : Bool) → (row.scheduler ≢ 255)
+pub scheduler_number : (s : Rows) (a : ArrivalRecord) (row : Filter) (priority mark : ℕ) → (row.scheduler ≢ 255)
     → (let n = scheduler_number_of (offered_of s a row.scheduler (scheduler_group s row.scheduler)).outcome in n ≡ 8 → DropsWith (scheduled_of s a row priority mark).verdict n)
 unfolding scheduled_of
 scheduler_number s a row priority mark named h = rw (ne_eqb _ _ named) (scheduler_drops s a row.scheduler _ priority mark _ (offered_of s a row.scheduler (scheduler_group s row.scheduler)).outcome h)

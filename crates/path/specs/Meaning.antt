@@ -1,6 +1,6 @@
 -- A frame's path: document 01's five steps, from the last to the first, since each ends in the next.
 -- `s` is the bank's rows, `a` the arrival, `f` the matched filter's number and `row` its row.
-use Rattle.std.specs.Prelude.{true, ℕ, ◌*◌, ◌%◌, ◌^◌, Bool, cond, not, ◌&&◌, ◌||◌, List, take, drop, Option, Some, None, ◌==◌, nat_le, nat_lt}
+use Rattle.std.specs.Prelude.{ℕ, ◌*◌, ◌%◌, ◌^◌, Bool, cond, not, ◌&&◌, ◌||◌, List, take, drop, Option, Some, None, ◌==◌, nat_le, nat_lt}
 use Rattle.sizes.specs.Meaning.{gate_count, entry_octets, list_octets}
 use Rattle.bucket.specs.declared.Octets.{Octets}
 use Rattle.frame.specs.Meaning.{frame_of}
@@ -42,7 +42,7 @@ abbrev pub class_count : Rows → ℕ
 class_count s = (component s).classes % 2 ^ 8
 
 -- internal priority, its traffic class, drop mark, and eligibility time or none
-unfoldable pub pass_of : Rows → ℕ → Bool → Option ℕ → Verdict
+unfoldable pub pass_of : Rows → ℕ → ℕ → Option ℕ → Verdict
 pass_of s priority mark eligible = Passed (record { priority = priority; class = class_in (traffic_class_of priority (class_count s)); drop_mark = mark; eligible = eligible })
 
 -- ---- counters: what step 2, 3 or 4 counts of filter `f`; all others stay
@@ -78,7 +78,7 @@ abbrev pub charged_of : Rows → ArrivalRecord → Octets
 charged_of s a = frame_of a.msdu (port s a.port).overhead
 
 -- by what scheduler `i` of group `j` says. Numbers that no record could have written (the step refuses them) drop the frame too
-unfoldable pub scheduled_by : Rows → ArrivalRecord → ℕ → ℕ → ℕ → Bool → Scheduler → SchedulerOutcome → Told
+unfoldable pub scheduled_by : Rows → ArrivalRecord → ℕ → ℕ → ℕ → ℕ → Scheduler → SchedulerOutcome → Told
 scheduled_by s a i j priority mark x (Admitted at) =
     let s' = with_group_last (with_scheduler_state s i x) j at in
     told s' (pass_of s' priority mark (Some at))
@@ -88,7 +88,7 @@ scheduled_by s a i j priority mark x Unsound = told (discard_counted s a.port) (
 abbrev pub offered_of : Rows → ArrivalRecord → ℕ → ℕ → Stepped
 offered_of s a i j = scheduler_step_of (scheduler s i) (group s j).last (group s j).residence a.time (charged_of s a)
 
-unfoldable pub scheduled_of : Rows → ArrivalRecord → Filter → ℕ → Bool → Told
+unfoldable pub scheduled_of : Rows → ArrivalRecord → Filter → ℕ → ℕ → Told
 scheduled_of s a row priority mark =
     let i = row.scheduler in
     let j = scheduler_group s i in
@@ -99,14 +99,14 @@ scheduled_of s a row priority mark =
 -- by what meter `i` says; `s` has the meter as it gave itself back. Numbers that no record could have written are red
 unfoldable pub metered_by : Rows → ArrivalRecord → ℕ → Filter → ℕ → MeterOutcome → Told
 metered_by s a f row priority Green = scheduled_of s a row priority a.drop_eligible
-metered_by s a f row priority Yellow = scheduled_of s a row priority true
+metered_by s a f row priority Yellow = scheduled_of s a row priority 1
 metered_by s a f row priority YellowDropped = told (red_counted s f) (Dropped drop.Yellow)
 metered_by s a f row priority Red = told (red_counted s f) (Dropped drop.Red)
 metered_by s a f row priority OutOfRange = told (red_counted s f) (Dropped drop.Red)
 metered_by s a f row priority TooEarly = told (red_counted s f) (Dropped drop.Red)
 
 abbrev pub coloured_of : Rows → ArrivalRecord → ℕ → Metered
-coloured_of s a i = colour_of (meter s i) a.time (record { 0 = a.msdu }) a.drop_eligible
+coloured_of s a i = colour_of (meter s i) a.time (record { 0 = a.msdu }) (is_set a.drop_eligible)
 
 unfoldable pub metered_of : Rows → ArrivalRecord → ℕ → Filter → ℕ → Told
 metered_of s a f row priority =

@@ -1,7 +1,7 @@
 // A frame's path: document 01's five steps. Each answers what the next one needs, or why the frame is dropped.
 #![tactic(auto)]
 
-ghost use Rattle.std.specs.Prelude.{◌≡◌, ℕ, Bool, List};
+ghost use Rattle.std.specs.Prelude.{◌≡◌, ℕ, List};
 ghost use Rattle.bank.specs.Meaning.{rows_of};
 ghost use Rattle.verdict.specs.Meaning.{Passed, told, said};
 ghost use Rattle.path.specs.Meaning.{pass_of, scheduled_of, metered_of, gated_of, sdu_filtered_of, arrival_of};
@@ -115,7 +115,7 @@ impl Frame {
 
     // 4: the meter, if named. The drop mark.
     #[tactic(auto, unfolding(crate::specs::Meaning::metered_of, crate::specs::Meaning::metered_by, crate::specs::Meaning::red_counted))]
-    fn meter(&self, bank: &mut Bank) -> Result<bool, Drop>
+    fn meter(&self, bank: &mut Bank) -> Result<u8, Drop>
         ensures { (priority : ℕ) → onward (rows_of bank.new) result (λ s mark. scheduled_of s self.now.arrival self.now.row priority mark) ≡ metered_of (rows_of bank.old) self.now.arrival self.now.place self.now.row priority }
     {
         let mark = self.arrival.drop_eligible;
@@ -124,11 +124,11 @@ impl Frame {
         }
         let i = self.row.meter as usize;
         let msdu = Octets(self.arrival.msdu as u32);
-        let metered = bank.meter_at(i).colour(self.arrival.time, msdu, mark);
+        let metered = bank.meter_at(i).colour(self.arrival.time, msdu, mark != 0);
         bank.put_meter_state(i, metered.meter);
         let why = match metered.outcome {
             meter::Outcome::Green => return Ok(mark),
-            meter::Outcome::Yellow => return Ok(true),
+            meter::Outcome::Yellow => return Ok(1),
             meter::Outcome::YellowDropped => Drop::Yellow,
             meter::Outcome::Red | meter::Outcome::OutOfRange | meter::Outcome::TooEarly => {
                 Drop::Red
@@ -141,7 +141,7 @@ impl Frame {
     // 5: the scheduler, if named. The eligibility time, if there is one.
     #[tactic(auto, unfolding(crate::specs::Meaning::scheduled_of, crate::specs::Meaning::scheduled_by, crate::specs::Meaning::discard_counted))]
     fn schedule(&self, bank: &mut Bank) -> Result<Option<u64>, Drop>
-        ensures { (priority : ℕ) (mark : Bool) → onward (rows_of bank.new) result (λ s eligible. told s (pass_of s priority mark eligible)) ≡ scheduled_of (rows_of bank.old) self.now.arrival self.now.row priority mark }
+        ensures { (priority mark : ℕ) → onward (rows_of bank.new) result (λ s eligible. told s (pass_of s priority mark eligible)) ≡ scheduled_of (rows_of bank.old) self.now.arrival self.now.row priority mark }
     {
         if self.row.scheduler == 255 {
             return Ok(None);
@@ -172,7 +172,7 @@ impl Frame {
 
 // What a frame that passes carries.
 #[tactic(auto, unfolding(crate::specs::Meaning::pass_of))]
-fn pass(bank: &Bank, priority: u8, drop_mark: bool, eligible: Option<u64>) -> Pass
+fn pass(bank: &Bank, priority: u8, drop_mark: u8, eligible: Option<u64>) -> Pass
     ensures { Passed result ≡ pass_of (rows_of bank.now) priority drop_mark eligible }
 {
     let classes = (bank.component_at().classes % 256) as u8;

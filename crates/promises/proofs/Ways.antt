@@ -76,13 +76,13 @@ module _ (lists : List ℕ) (a : ArrivalRecord) (f : ℕ) (row : Filter) where
     pub late : (s : Rows) → P₄ s → Q (told (discard_counted s a.port) (Dropped drop.Residence))
 
   module _ (P₂ P₃ P₄ : Rows → Type 0) (Q : Told → Type 0) (all : Along P₂ P₃ P₄ Q) where
-    scheduled_outcome : (s : Rows) → P₄ s → (i j priority : ℕ) (mark : Bool) (x : Scheduler) (o : SchedulerOutcome) → Q (scheduled_by s a i j priority mark x o)
+    scheduled_outcome : (s : Rows) → P₄ s → (i j priority mark : ℕ) (x : Scheduler) (o : SchedulerOutcome) → Q (scheduled_by s a i j priority mark x o)
     unfolding scheduled_by pass_of
     scheduled_outcome s h i j priority mark x (Admitted at) = all.admits s i j at x _ h
     scheduled_outcome s h i j priority mark x Late = all.late s h
     scheduled_outcome s h i j priority mark x Unsound = all.late s h
 
-    scheduled_along : (s : Rows) → P₄ s → (priority : ℕ) (mark : Bool) → Q (scheduled_of s a row priority mark)
+    scheduled_along : (s : Rows) → P₄ s → (priority mark : ℕ) → Q (scheduled_of s a row priority mark)
     unfolding scheduled_of pass_of
     scheduled_along s h priority mark = if_by Q (eqb row.scheduler 255) _ _ (λ e. all.passes s _ h) (λ e. scheduled_outcome s h _ _ _ _ _ _)
 

@@ -215,10 +215,6 @@ flag_in n = cond (eqb n 1) Oversize (cond (eqb n 2) InvalidReceive (cond (eqb n 
 abbrev pub flag_said : ℕ → Result Flag Refusal
 flag_said n = cond (leb 1 n && leb n 4) (Ok (flag_in n)) (Err OutOfRange)
 
--- what a field of 0/1 says
-abbrev pub raised : ℕ → Bool
-raised n = not (eqb n 0)
-
 -- the record that the values of a kind's fields make
 abbrev pub record_of : Kind → List ℕ → Record
 record_of port vs = Port (record { port = get_or vs 0 0; overhead = get_or vs 1 0 })
@@ -226,11 +222,12 @@ record_of filter vs =
     Filter
     (record {
       id = get_or vs 0 0;
-      handle = cond (eqb (get_or vs 1 0) 1) None (Some (get_or vs 2 0));
+      any_handle = get_or vs 1 0;
+      handle = get_or vs 2 0;
       priority = get_or vs 3 0;
       gate = get_or vs 4 0;
       max_sdu = get_or vs 5 0;
-      oversize_block = raised (get_or vs 6 0);
+      oversize_block = get_or vs 6 0;
       meter = get_or vs 7 0;
       scheduler = get_or vs 8 0;
     })
@@ -238,14 +235,14 @@ record_of gate vs =
     Gate
     (record {
       id = get_or vs 0 0;
-      opened = raised (get_or vs 1 0);
+      state = get_or vs 1 0;
       ipv = get_or vs 2 0;
-      invalid_receive_block = raised (get_or vs 3 0);
-      octets_block = raised (get_or vs 4 0);
+      invalid_receive_block = get_or vs 3 0;
+      octets_block = get_or vs 4 0;
       base_time = get_or vs 5 0;
     })
 record_of gate_entry vs =
-    GateEntry (record { gate = get_or vs 0 0; opened = raised (get_or vs 1 0); ipv = get_or vs 2 0; interval = get_or vs 3 0; octet_maximum = get_or vs 4 0 })
+    GateEntry (record { gate = get_or vs 0 0; state = get_or vs 1 0; ipv = get_or vs 2 0; interval = get_or vs 3 0; octet_maximum = get_or vs 4 0 })
 record_of meter vs =
     Meter
     (record {
@@ -254,10 +251,10 @@ record_of meter vs =
       cbs = record { 0 = get_or vs 2 0 };
       eir = record { 0 = get_or vs 3 0 };
       ebs = record { 0 = get_or vs 4 0 };
-      coupling = raised (get_or vs 5 0);
-      colour_aware = raised (get_or vs 6 0);
-      drop_on_yellow = raised (get_or vs 7 0);
-      red_block = raised (get_or vs 8 0);
+      coupling = get_or vs 5 0;
+      colour_aware = get_or vs 6 0;
+      drop_on_yellow = get_or vs 7 0;
+      red_block = get_or vs 8 0;
     })
 record_of group vs = Group (record { id = get_or vs 0 0; residence = get_or vs 1 0 })
 record_of scheduler vs = Scheduler (record { id = get_or vs 0 0; group = get_or vs 1 0; cir = record { 0 = get_or vs 2 0 }; cbs = record { 0 = get_or vs 3 0 } })
@@ -269,10 +266,10 @@ record_of arrival vs =
       time = get_or vs 1 0;
       handle = get_or vs 2 0;
       priority = get_or vs 3 0;
-      drop_eligible = raised (get_or vs 4 0);
+      drop_eligible = get_or vs 4 0;
       msdu = get_or vs 5 0;
     })
-record_of clear vs = Clear (record { flag = flag_in (get_or vs 0 0); id = get_or vs 1 0 })
+record_of clear vs = Clear (record { flag = get_or vs 0 0; id = get_or vs 1 0 })
 
 -- the octets of a record, its kind included
 abbrev pub record_length : Kind → ℕ

@@ -8,7 +8,8 @@ ghost use Rattle.record.specs.Steps.{taken_as};
 
 use bucket::{Octets, Rate};
 
-// Kept: 8 for any priority or a null IPV, 0 for no max SDU, 255 for none stay numbers, as `transomrib_filter` and the bank of the C interface hold them.
+// Kept: a record's fields are the numbers that stand in it, whatever they are. `setup::set_gate`, `set_meter`, `add_entry` and `clear`, `path::arrive` and
+// `lines::put_line` answer for records of any numbers, those that no reader gives too (`clear_none`).
 
 // 01, kind 1. The overhead is in octets.
 #[derive(Clone, Copy)]
@@ -17,16 +18,17 @@ pub struct PortRecord {
     pub overhead: u8,
 }
 
-// 01, kind 2. No handle is any handle. All other numbers as they stand in the record: priority 8 is any, a max SDU of 0 none, meter and
-// scheduler 255 none. The max SDU is in octets.
+// 01, kind 2. All numbers as they stand in the record: priority 8 is any, a max SDU of 0 none, meter and scheduler 255 none. The max SDU is in
+// octets.
 #[derive(Clone, Copy)]
 pub struct FilterRecord {
     pub id: u8,
-    pub handle: Option<u32>,
+    pub any_handle: u8,
+    pub handle: u32,
     pub priority: u8,
     pub gate: u8,
     pub max_sdu: u16,
-    pub oversize_block: bool,
+    pub oversize_block: u8,
     pub meter: u8,
     pub scheduler: u8,
 }
@@ -35,10 +37,10 @@ pub struct FilterRecord {
 #[derive(Clone, Copy)]
 pub struct GateRecord {
     pub id: u8,
-    pub opened: bool,
+    pub state: u8,
     pub ipv: u8,
-    pub invalid_receive_block: bool,
-    pub octets_block: bool,
+    pub invalid_receive_block: u8,
+    pub octets_block: u8,
     pub base_time: u64,
 }
 
@@ -46,7 +48,7 @@ pub struct GateRecord {
 #[derive(Clone, Copy)]
 pub struct GateEntryRecord {
     pub gate: u8,
-    pub opened: bool,
+    pub state: u8,
     pub ipv: u8,
     pub interval: u32,
     pub octet_maximum: u32,
@@ -60,10 +62,10 @@ pub struct MeterRecord {
     pub cbs: Octets,
     pub eir: Rate,
     pub ebs: Octets,
-    pub coupling: bool,
-    pub colour_aware: bool,
-    pub drop_on_yellow: bool,
-    pub red_block: bool,
+    pub coupling: u8,
+    pub colour_aware: u8,
+    pub drop_on_yellow: u8,
+    pub red_block: u8,
 }
 
 // 01, kind 6. The residence is in nanoseconds.
@@ -95,7 +97,7 @@ pub struct ArrivalRecord {
     pub time: u64,
     pub handle: u32,
     pub priority: u8,
-    pub drop_eligible: bool,
+    pub drop_eligible: u8,
     pub msdu: u16,
 }
 
@@ -137,10 +139,10 @@ impl TryFrom<u8> for Flag {
     }
 }
 
-// 01, kind 10. The id is that of the filter, gate or meter whose flag it is.
+// 01, kind 10. The flag is one of `Flag`'s where a reader gave the record; the id is that of the filter, gate or meter whose flag it is.
 #[derive(Clone, Copy)]
 pub struct ClearRecord {
-    pub flag: Flag,
+    pub flag: u8,
     pub id: u8,
 }
 
@@ -327,26 +329,25 @@ impl FilterRecord {
         requires { 14 ≤ length s.now }
         ensures { taken_as filter (option_map Record.Filter result) ≡ whole_of filter s.now }
     {
-        let any = s[2] == 1;
-        let handle = read_u32(s, 3);
         let r = FilterRecord {
             id: s[1],
-            handle: if any { None } else { Some(handle) },
+            any_handle: s[2],
+            handle: read_u32(s, 3),
             priority: s[7],
             gate: s[8],
             max_sdu: read_u16(s, 9),
-            oversize_block: s[11] != 0,
+            oversize_block: s[11],
             meter: s[12],
             scheduler: s[13],
         };
         // A filter for any handle has handle 0.
-        let fits = (!any | (handle == 0))
+        let fits = ((r.any_handle != 1) | (r.handle == 0))
             & (r.id <= sizes::LAST_FILTER)
-            & (s[2] <= 1)
+            & (r.any_handle <= 1)
             & (r.priority <= 8)
             & (r.gate <= sizes::LAST_GATE)
             & (r.max_sdu <= 2000)
-            & (s[11] <= 1)
+            & (r.oversize_block <= 1)
             & ((r.meter <= sizes::LAST_METER) | (r.meter == 255))
             & ((r.scheduler <= sizes::LAST_SCHEDULER) | (r.scheduler == 255));
         fits.then_some(r)
@@ -360,17 +361,17 @@ impl GateRecord {
     {
         let r = GateRecord {
             id: s[1],
-            opened: s[2] != 0,
+            state: s[2],
             ipv: s[3],
-            invalid_receive_block: s[4] != 0,
-            octets_block: s[5] != 0,
+            invalid_receive_block: s[4],
+            octets_block: s[5],
             base_time: read_u64(s, 6),
         };
         let fits = (r.id <= sizes::LAST_GATE)
-            & (s[2] <= 1)
+            & (r.state <= 1)
             & (r.ipv <= 8)
-            & (s[4] <= 1)
-            & (s[5] <= 1)
+            & (r.invalid_receive_block <= 1)
+            & (r.octets_block <= 1)
             & (r.base_time <= 4_611_686_018_427_387_904);
         fits.then_some(r)
     }
@@ -383,13 +384,13 @@ impl GateEntryRecord {
     {
         let r = GateEntryRecord {
             gate: s[1],
-            opened: s[2] != 0,
+            state: s[2],
             ipv: s[3],
             interval: read_u32(s, 4),
             octet_maximum: read_u32(s, 8),
         };
         let fits = (r.gate <= sizes::LAST_GATE)
-            & (s[2] <= 1)
+            & (r.state <= 1)
             & (r.ipv <= 8)
             & (1 <= r.interval)
             & (r.interval <= 1_000_000_000);
@@ -408,20 +409,20 @@ impl MeterRecord {
             cbs: Octets(read_u32(s, 10)),
             eir: Rate(read_u64(s, 14)),
             ebs: Octets(read_u32(s, 22)),
-            coupling: s[26] != 0,
-            colour_aware: s[27] != 0,
-            drop_on_yellow: s[28] != 0,
-            red_block: s[29] != 0,
+            coupling: s[26],
+            colour_aware: s[27],
+            drop_on_yellow: s[28],
+            red_block: s[29],
         };
         let fits = (r.id <= sizes::LAST_METER)
             & (r.cir.0 <= 10_000_000_000)
             & (r.cbs.0 <= 1_000_000)
             & (r.eir.0 <= 10_000_000_000)
             & (r.ebs.0 <= 1_000_000)
-            & (s[26] <= 1)
-            & (s[27] <= 1)
-            & (s[28] <= 1)
-            & (s[29] <= 1);
+            & (r.coupling <= 1)
+            & (r.colour_aware <= 1)
+            & (r.drop_on_yellow <= 1)
+            & (r.red_block <= 1);
         fits.then_some(r)
     }
 }
@@ -484,13 +485,13 @@ impl ArrivalRecord {
             time: read_u64(s, 2),
             handle: read_u32(s, 10),
             priority: s[14],
-            drop_eligible: s[15] != 0,
+            drop_eligible: s[15],
             msdu: read_u16(s, 16),
         };
         let fits = (r.port <= sizes::LAST_PORT)
             & (r.time <= 4_611_686_018_427_387_904)
             & (r.priority <= 7)
-            & (s[15] <= 1)
+            & (r.drop_eligible <= 1)
             & (r.msdu <= 2000);
         fits.then_some(r)
     }
@@ -501,14 +502,16 @@ impl ClearRecord {
         requires { 3 ≤ length s.now }
         ensures { taken_as clear (option_map Record.Clear result) ≡ whole_of clear s.now }
     {
-        let flag = Flag::try_from(s[1]).ok()?;
-        let id = s[2];
-        let last = match flag {
+        let r = ClearRecord {
+            flag: s[1],
+            id: s[2],
+        };
+        let last = match Flag::try_from(r.flag).ok()? {
             Flag::Oversize => sizes::LAST_FILTER,
             // There are as many meters as gates.
             Flag::InvalidReceive | Flag::Octets | Flag::Red => sizes::LAST_GATE,
         };
-        (id <= last).then_some(ClearRecord { flag, id })
+        (r.id <= last).then_some(r)
     }
 }
 

@@ -10,7 +10,6 @@ use Rattle.meter.specs.Meaning.{fresh_meter_of, meter_holding}
 use Rattle.scheduler.specs.declared.Scheduler.{Scheduler}
 use Rattle.gate.specs.declared.Gate.{Gate}
 use Rattle.gate.specs.Meaning.{gate_holding}
-use Rattle.record.specs.Meaning.{flag_number_of}
 use Rattle.record.specs.declared.PortRecord.{PortRecord}
 use Rattle.record.specs.declared.GateRecord.{GateRecord}
 use Rattle.record.specs.declared.GateEntryRecord.{GateEntryRecord}
@@ -46,7 +45,7 @@ set_port_of s r =
 unfoldable pub set_gate_of : Rows → GateRecord → Told
 set_gate_of s r =
     refused_if (gate_is_set s r.id) SetUpAlready s
-    (told (with_gate s r.id r.opened r.ipv r.invalid_receive_block r.octets_block r.base_time) Taken)
+    (told (with_gate s r.id (is_set r.state) r.ipv (is_set r.invalid_receive_block) (is_set r.octets_block) r.base_time) Taken)
 
 -- ---- kind 4, gate entry, with or without the gate's record. It leaves the octets of the lists, too
 
@@ -84,7 +83,7 @@ add_entry_of s lists body r =
 unfoldable pub set_meter_of : Rows → MeterRecord → Told
 set_meter_of s r =
     refused_if (meter_is_set s r.id) SetUpAlready s
-    (told (with_meter s r.id (fresh_meter_of r.cir r.cbs r.eir r.ebs r.coupling r.colour_aware r.drop_on_yellow r.red_block)) Taken)
+    (told (with_meter s r.id (fresh_meter_of r.cir r.cbs r.eir r.ebs (is_set r.coupling) (is_set r.colour_aware) (is_set r.drop_on_yellow) (is_set r.red_block))) Taken)
 
 -- ---- kind 6, group. Its last time starts at 0
 
@@ -150,8 +149,8 @@ clear_red_of s i = refused_if (not (meter_is_set s i)) NotSetUp s (told (with_me
 -- by the number of the flag; no record has any other
 unfoldable pub clear_of : Rows → ClearRecord → Filter → Told
 clear_of s r row =
-    cond (eqb (flag_number_of r.flag) 1) (clear_oversize_of s r.id row)
-    (cond (eqb (flag_number_of r.flag) 2) (clear_invalid_receive_of s r.id)
-    (cond (eqb (flag_number_of r.flag) 3) (clear_octets_of s r.id)
-    (cond (eqb (flag_number_of r.flag) 4) (clear_red_of s r.id)
+    cond (eqb r.flag 1) (clear_oversize_of s r.id row)
+    (cond (eqb r.flag 2) (clear_invalid_receive_of s r.id)
+    (cond (eqb r.flag 3) (clear_octets_of s r.id)
+    (cond (eqb r.flag 4) (clear_red_of s r.id)
     (told s (Refused NotSetUp)))))

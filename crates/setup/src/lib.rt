@@ -53,10 +53,10 @@ pub fn set_gate(bank: &mut Bank, r: GateRecord) -> Result<(), Refusal>
     }
     bank.set_up_gate(
         i,
-        r.opened,
+        r.state != 0,
         r.ipv,
-        r.invalid_receive_block,
-        r.octets_block,
+        r.invalid_receive_block != 0,
+        r.octets_block != 0,
         r.base_time,
     );
     Ok(())
@@ -110,10 +110,10 @@ pub fn set_meter(bank: &mut Bank, r: MeterRecord) -> Result<(), Refusal>
         r.cbs,
         r.eir,
         r.ebs,
-        r.coupling,
-        r.colour_aware,
-        r.drop_on_yellow,
-        r.red_block,
+        r.coupling != 0,
+        r.colour_aware != 0,
+        r.drop_on_yellow != 0,
+        r.red_block != 0,
     );
     bank.set_up_meter(i, m);
     Ok(())
@@ -196,26 +196,26 @@ fn some_groupless(bank: &Bank) -> bool
         && !bank.group_at(bank.scheduler_group(i)).set)
 }
 
-// Kind 10. `row` is the row of the filter table at the place that the record names.
+// Kind 10. `row` is the row of the filter table at the place that the record names. A number that is no flag's is that of nothing set up.
 // Ruled out: a clear of one gate flag that takes down the other; a flag cleared at a place that counts as empty.
 #[tactic(auto, unfolding(crate::specs::Meaning::clear_of, crate::specs::Meaning::clear_oversize_of, crate::specs::Meaning::clear_invalid_receive_of, crate::specs::Meaning::clear_octets_of, crate::specs::Meaning::clear_red_of, crate::specs::Meaning::refused_if))]
 pub fn clear(bank: &mut Bank, r: ClearRecord, row: Filter) -> Result<(), Refusal>
     ensures { told (rows_of bank.new) (set_up result) ≡ clear_of (rows_of bank.old) r row }
 {
     let i = r.id as usize;
-    match r.flag {
-        Flag::Oversize if row.counts(bank) => bank.put_oversize(i, false),
-        Flag::InvalidReceive if bank.gate_set(i) => {
+    match Flag::try_from(r.flag) {
+        Ok(Flag::Oversize) if row.counts(bank) => bank.put_oversize(i, false),
+        Ok(Flag::InvalidReceive) if bank.gate_set(i) => {
             let mut gate = bank.gate_at(i);
             gate.invalid_receive_flag = false;
             bank.put_gate_state(i, gate);
         }
-        Flag::Octets if bank.gate_set(i) => {
+        Ok(Flag::Octets) if bank.gate_set(i) => {
             let mut gate = bank.gate_at(i);
             gate.octets_flag = false;
             bank.put_gate_state(i, gate);
         }
-        Flag::Red if bank.meter_set(i) => {
+        Ok(Flag::Red) if bank.meter_set(i) => {
             let mut meter = bank.meter_at(i);
             meter.red_flag = false;
             bank.put_meter_state(i, meter);

@@ -1,7 +1,6 @@
 -- The room of a line: where there are places enough, all of it is put, octet by octet after what is filled; and no line needs more of them than
 -- are kept for it (`line_room`).
 use Rattle.std.specs.Prelude.{ℕ, zero, suc, ◌+◌, ◌-◌, ◌*◌, ◌/◌, ◌%◌, ◌^◌, ◌<◌, ◌≤◌, Bool, true, false, Option, Some, None, List, [], ◌∷◌, ◌++◌, ◌≡◌, refl, leb, ltb, length, set, take, drop}
-use mir.Val.{bool_byte}
 use Rattle.std.proofs.Common.{append_assoc, sym, ap, ◌∙◌, arith, add-one, leb-true, ltb-true, ltb-false, length-set}
 use Rattle.std.proofs.Math.ListN.{length-append}
 use Rattle.std.proofs.lemmas.List.Edits.{sets, sets-eq}
@@ -109,14 +108,10 @@ drop_number_room d = digits_8 (drop_number_of d) (small d)
     small Residence = omega arith
 
 module _ (arrival : ℕ) (l : arrival < 2 ^ 64) where
-  pub pass_room : (p : Pass) → p.priority < 2 ^ 8 → p.class < 2 ^ 8 → ((at : ℕ) → p.eligible ≡ Some at → at < 2 ^ 64) → length (pass_line_of arrival p) ≤ line_room
+  pub pass_room : (p : Pass) → p.priority < 2 ^ 8 → p.class < 2 ^ 8 → p.drop_mark < 2 ^ 8 → ((at : ℕ) → p.eligible ≡ Some at → at < 2 ^ 64) → length (pass_line_of arrival p) ≤ line_room
   unfolding pass_line_of
-  pass_room p a b e =
-      simp length-append (omega (arith, digits_64 arrival l, digits_8 p.priority a, digits_8 p.class b, digits_8 (bool_byte p.drop_mark) (small p.drop_mark), time_room p.eligible e))
-    where
-      small : (b : Bool) → bool_byte b < 2 ^ 8
-      small true = omega arith
-      small false = omega arith
+  pass_room p a b c e =
+      simp length-append (omega (arith, digits_64 arrival l, digits_8 p.priority a, digits_8 p.class b, digits_8 p.drop_mark c, time_room p.eligible e))
 
   pub drop_room : (d : Drop) → length (drop_line_of arrival d) ≤ line_room
   unfolding drop_line_of

@@ -62,7 +62,7 @@ time_of (Some time) = digits_of time
 
 unfoldable pub pass_line_of : ℕ → Pass → List ℕ
 pass_line_of arrival p =
-    digits_of arrival ++ ascii " pass " ++ digits_of p.priority ++ ascii " " ++ digits_of p.class ++ ascii " " ++ digits_of (bool_byte p.drop_mark) ++ ascii " " ++ time_of p.eligible ++ ascii "\n"
+    digits_of arrival ++ ascii " pass " ++ digits_of p.priority ++ ascii " " ++ digits_of p.class ++ ascii " " ++ digits_of p.drop_mark ++ ascii " " ++ time_of p.eligible ++ ascii "\n"
 
 unfoldable pub drop_line_of : ℕ → Drop → List ℕ
 drop_line_of arrival d = digits_of arrival ++ ascii " drop " ++ digits_of (drop_number_of d) ++ ascii "\n"

@@ -30,7 +30,7 @@ spelled_of used (Passed p) =
       number = 0;
       priority = p.priority;
       class = p.class;
-      drop_mark = bool_byte p.drop_mark;
+      drop_mark = p.drop_mark;
       timed = bool_byte (is_some p.eligible);
     }
 spelled_of used (Dropped d) = short_reply used 3 (drop_number_of d)

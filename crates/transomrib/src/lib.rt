@@ -73,7 +73,7 @@ impl From<Result<Taken, Refusal>> for Reply {
                         number: 0,
                         priority: p.priority,
                         class: p.class,
-                        drop_mark: p.drop_mark as u8,
+                        drop_mark: p.drop_mark,
                         timed: p.eligible.is_some() as u8,
                     },
                     Outcome::Dropped(d) => Reply {

@@ -38,8 +38,8 @@ pub struct Pass {
     // The internal priority: the gate's IPV, or the frame's own.
     pub priority: u8,
     pub class: u8,
-    // Whether the frame is drop eligible.
-    pub drop_mark: bool,
+    // 1 where the frame is drop eligible; the arrival's own number where no meter is named or it leaves the mark.
+    pub drop_mark: u8,
     // In ns; none where no scheduler gave one.
     pub eligible: Option<u64>,
 }

@@ -43,4 +43,4 @@ returns-in-Arrival g c = rw c.in-Arrival.is c.put_form-in-Arrival.ensures
 
 pub returns-in-Clear : goal.returns-in-Clear
 unfolding line_of filled_in shown_as
-returns-in-Clear g c = rw (c.in-Clear.is, ← c.from.ensures) c.put_form-in-Clear.ensures
+returns-in-Clear g c = rw c.in-Clear.is c.put_form-in-Clear.ensures

@@ -1,5 +1,4 @@
 -- A clear on the two banks: one verdict, and the banks stay equal outside the group.
-use Rattle.record.specs.Meaning.{flag_number_of}
 use Rattle.std.specs.Prelude.{ℕ, ◌<◌, Bool, true, cond, ◌≡◌, refl, eqb}
 use Rattle.std.proofs.Math.Bool.{false, not}
 use mathlib.Core.List.{List}
@@ -62,8 +61,8 @@ module _ (k : Asked) (z : Constants) (g : ℕ) (s s' : Rows) (o : Over k z g s s
   pub clear_both : (r : ClearRecord) (row : Filter) → counts_of s row ≡ counts_of s' row → Alike k z g (clear_of s r row) (clear_of s' r row)
   unfolding clear_of
   clear_both r row e =
-      cond_both (Alike k z g) (eqb (flag_number_of r.flag) 1) _ _ _ _ (oversize_both r.id row e)
-      (cond_both (Alike k z g) (eqb (flag_number_of r.flag) 2) _ _ _ _ (invalid_receive_both r.id)
-      (cond_both (Alike k z g) (eqb (flag_number_of r.flag) 3) _ _ _ _ (octets_both r.id)
-      (cond_both (Alike k z g) (eqb (flag_number_of r.flag) 4) _ _ _ _ (red_both r.id)
+      cond_both (Alike k z g) (eqb r.flag 1) _ _ _ _ (oversize_both r.id row e)
+      (cond_both (Alike k z g) (eqb r.flag 2) _ _ _ _ (invalid_receive_both r.id)
+      (cond_both (Alike k z g) (eqb r.flag 3) _ _ _ _ (octets_both r.id)
+      (cond_both (Alike k z g) (eqb r.flag 4) _ _ _ _ (red_both r.id)
       (alike_stop k z g s s' _ o))))

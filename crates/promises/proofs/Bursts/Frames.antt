@@ -69,7 +69,7 @@ module _ (k : Asked) (z : Constants) (g : ℕ) (s s' : Rows) (o : Over k z g s s
   pub meter_both : (i : ℕ) → meter s i ≡ meter s' i
   meter_both i = ap (λ (u : List ℕ). meter_in u (s (meter_state_row i))) (meter_row_both i) ∙ ap (meter_in (s' (meter_row i))) (outer_both (meter_state_row i) (omega arith) (omega arith))
 
-  pub pass_both : (priority : ℕ) (mark : Bool) (eligible : Option ℕ) → pass_of s priority mark eligible ≡ pass_of s' priority mark eligible
+  pub pass_both : (priority mark : ℕ) (eligible : Option ℕ) → pass_of s priority mark eligible ≡ pass_of s' priority mark eligible
   unfolding pass_of
   pass_both priority mark eligible =
       ap (λ (x : Component). Passed (record { priority = priority; class = class_in (traffic_class_of priority (x.classes % 2 ^ 8)); drop_mark = mark; eligible = eligible })) component_both
@@ -131,11 +131,11 @@ module _ (k : Asked) (z : Constants) (g : ℕ) (Q : Told → Told → Type 0) (s
 
 -- and of step 5
 module _ (k : Asked) (z : Constants) (g : ℕ) (Q : Told → Told → Type 0) (stop : (s s' : Rows) (v : Verdict) → Over k z g s s' → Q (told s v) (told s' v)) (a : ArrivalRecord) (row : Filter)
-    (step : (s s' : Rows) → Over k z g s s' → (priority : ℕ) (mark : Bool) → Q (scheduled_of s a row priority mark) (scheduled_of s' a row priority mark)) where
+    (step : (s s' : Rows) → Over k z g s s' → (priority mark : ℕ) → Q (scheduled_of s a row priority mark) (scheduled_of s' a row priority mark)) where
   metered_outcome : (s s' : Rows) → Over k z g s s' → (f priority : ℕ) (m : MeterOutcome) → Q (metered_by s a f row priority m) (metered_by s' a f row priority m)
   unfolding metered_by
   metered_outcome s s' o f priority Green = step s s' o priority a.drop_eligible
-  metered_outcome s s' o f priority Yellow = step s s' o priority true
+  metered_outcome s s' o f priority Yellow = step s s' o priority 1
   metered_outcome s s' o f priority YellowDropped = stop _ _ _ (red_counted_both k z g s s' o f)
   metered_outcome s s' o f priority Red = stop _ _ _ (red_counted_both k z g s s' o f)
   metered_outcome s s' o f priority OutOfRange = stop _ _ _ (red_counted_both k z g s s' o f)
@@ -146,7 +146,7 @@ module _ (k : Asked) (z : Constants) (g : ℕ) (Q : Told → Told → Type 0) (s
   metered_both s s' o f priority =
       cond_both Q (eqb row.meter 255) _ _ _ _ (step s s' o priority a.drop_eligible)
       (subst (λ (m : Metered). Q (metered_by (with_meter_state s row.meter (coloured_of s a row.meter).meter) a f row priority (coloured_of s a row.meter).outcome) (metered_by (with_meter_state s' row.meter m.meter) a f row priority m.outcome))
-      (ap (λ (m : Meter). colour_of m a.time (record { 0 = a.msdu }) a.drop_eligible) (meter_both k z g s s' o row.meter))
+      (ap (λ (m : Meter). colour_of m a.time (record { 0 = a.msdu }) (is_set a.drop_eligible)) (meter_both k z g s s' o row.meter))
       (metered_outcome _ _ (store_outer k z g s s' o (meter_state_row row.meter) (omega arith) (omega arith) (row_of_meter_state (coloured_of s a row.meter).meter)) f priority (coloured_of s a row.meter).outcome))
 
   gated_outcome : (s s' : Rows) → Over k z g s s' → (f : ℕ) (m : GateOutcome) → Q (gated_by s a f row m) (gated_by s' a f row m)

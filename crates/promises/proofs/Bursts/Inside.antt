@@ -33,7 +33,7 @@ pub apart_fair : Fair apart
 apart_fair = record { overheads = λ u v e. e.overhead; discards = λ u v e. record { overhead = e.overhead } }
 
 -- one pass at two times
-sooner_pass : (s : Rows) (priority : ℕ) (mark : Bool) (at at' : ℕ) → at' ≤ at → NotLater (pass_of s priority mark (Some at)) (pass_of s priority mark (Some at'))
+sooner_pass : (s : Rows) (priority mark : ℕ) (at at' : ℕ) → at' ≤ at → NotLater (pass_of s priority mark (Some at)) (pass_of s priority mark (Some at'))
 unfolding pass_of
 sooner_pass s priority mark at at' h = earlier (record { priority = priority; class = class_in (traffic_class_of priority ((component s).classes % 256)); drop_mark = mark; eligible = Some at }) at at' refl (omega arith)
 
@@ -82,7 +82,7 @@ module _ (z : Constants) (g : ℕ) (a : ArrivalRecord) (row : Filter) (some : ro
         put (At near z g) (with_scheduler_state s i x) (with_scheduler_state s' i x') stepped (group_row g) _ _
         (group_at near z g (group_row g) _ _ (omega arith) (omega arith) (λ n. absurd (n place)) (λ _. record { set = w.set; residence = w.residence; last = omega (arith, no_later) }))
 
-    admitted_told : (priority : ℕ) (mark : Bool) → Leads near z g (scheduled_by s a i g priority mark x (Admitted at)) (scheduled_by s' a i g priority mark x' (Admitted at'))
+    admitted_told : (priority mark : ℕ) → Leads near z g (scheduled_by s a i g priority mark x (Admitted at)) (scheduled_by s' a i g priority mark x' (Admitted at'))
     unfolding scheduled_by pass_of
     admitted_told priority mark = record {
       verdicts = subst (λ (v : Verdict). NotLater (pass_of (with_group_last (with_scheduler_state s i x) g at) priority mark (Some at)) v)
@@ -91,7 +91,7 @@ module _ (z : Constants) (g : ℕ) (a : ArrivalRecord) (row : Filter) (some : ro
       banks = admitted_near;
     }
 
-  module _ (priority : ℕ) (mark : Bool) where
+  module _ (priority mark : ℕ) where
     abbrev len : Octets
     len = charged_of s a
 
@@ -186,19 +186,19 @@ module _ (z : Constants) (g : ℕ) (a : ArrivalRecord) (row : Filter) (some : ro
         put_right (At apart z g) s s' o (port_row a.port) _
         (port_at apart z g (port_row a.port) _ _ (omega arith) (omega arith) (record { overhead = ((o (port_row a.port)).pair.ports (omega arith) (omega arith)).overhead }))
 
-  left_by : (s s' : Rows) → Over apart z g s s' → (priority : ℕ) (mark : Bool) (x : Scheduler) (d : SchedulerOutcome) → Over apart z g (scheduled_by s a row.scheduler g priority mark x d).bank s'
+  left_by : (s s' : Rows) → Over apart z g s s' → (priority mark : ℕ) (x : Scheduler) (d : SchedulerOutcome) → Over apart z g (scheduled_by s a row.scheduler g priority mark x d).bank s'
   unfolding scheduled_by
   left_by s s' o priority mark x (Admitted at) = left_group _ s' (left_scheduler s s' o x) at
   left_by s s' o priority mark x Late = left_port s s' o
   left_by s s' o priority mark x Unsound = left_port s s' o
 
-  right_by : (s s' : Rows) → Over apart z g s s' → (priority : ℕ) (mark : Bool) (x : Scheduler) (d : SchedulerOutcome) → Over apart z g s (scheduled_by s' a row.scheduler g priority mark x d).bank
+  right_by : (s s' : Rows) → Over apart z g s s' → (priority mark : ℕ) (x : Scheduler) (d : SchedulerOutcome) → Over apart z g s (scheduled_by s' a row.scheduler g priority mark x d).bank
   unfolding scheduled_by
   right_by s s' o priority mark x (Admitted at) = right_group s _ (right_scheduler s s' o x) at
   right_by s s' o priority mark x Late = right_port s s' o
   right_by s s' o priority mark x Unsound = right_port s s' o
 
-  scheduled_apart : (s s' : Rows) → Over apart z g s s' → (priority : ℕ) (mark : Bool) → Over apart z g (scheduled_of s a row priority mark).bank (scheduled_of s' a row priority mark).bank
+  scheduled_apart : (s s' : Rows) → Over apart z g s s' → (priority mark : ℕ) → Over apart z g (scheduled_of s a row priority mark).bank (scheduled_of s' a row priority mark).bank
   scheduled_apart s s' o priority mark =
       rw (
         scheduled_by_lem s a row priority mark some g (sym ((o r').fixed.names (omega arith) ∙ inside)) (offered_of s a row.scheduler g) refl _ refl,

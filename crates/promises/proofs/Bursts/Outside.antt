@@ -126,14 +126,14 @@ module _ (k : Asked) (fair : Fair k) (z : Constants) (g : ℕ) (s s' : Rows) (o 
         (λ n. ap (λ (u : List ℕ). row_with u 2 at) ((stepped (group_row j)).pair.groups (omega arith) (omega arith) n))
         (λ e. absurd (out (omega (arith, small, e)))))
 
-    by_outcome : (priority : ℕ) (mark : Bool) (x : Scheduler) (d : SchedulerOutcome) → Alike k z g (scheduled_by s a i j priority mark x d) (scheduled_by s' a i j priority mark x d)
+    by_outcome : (priority mark : ℕ) (x : Scheduler) (d : SchedulerOutcome) → Alike k z g (scheduled_by s a i j priority mark x d) (scheduled_by s' a i j priority mark x d)
     unfolding scheduled_by
     by_outcome priority mark x (Admitted at) = record { verdicts = pass_both k z g _ _ (admitted_both x at) priority mark (Some at); banks = admitted_both x at }
     by_outcome priority mark x Late = record { verdicts = refl; banks = discarded_both a.port }
     by_outcome priority mark x Unsound = record { verdicts = refl; banks = discarded_both a.port }
 
 module _ (k : Asked) (fair : Fair k) (z : Constants) (g : ℕ) (a : ArrivalRecord) (row : Filter) (out : row.scheduler ≢ 255 → z.names (scheduler_row row.scheduler) ≢ g) where
-  scheduled_outside : (s s' : Rows) → Over k z g s s' → (priority : ℕ) (mark : Bool) → Alike k z g (scheduled_of s a row priority mark) (scheduled_of s' a row priority mark)
+  scheduled_outside : (s s' : Rows) → Over k z g s s' → (priority mark : ℕ) → Alike k z g (scheduled_of s a row priority mark) (scheduled_of s' a row priority mark)
   scheduled_outside s s' o priority mark = by_name (ℕ_discrete row.scheduler 255)
     where
       by_name : Dec (row.scheduler ≡ 255) → Alike k z g (scheduled_of s a row priority mark) (scheduled_of s' a row priority mark)

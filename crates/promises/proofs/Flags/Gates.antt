@@ -1,5 +1,4 @@
 -- Flags 2 and 3, a gate's invalid-receive and octets flags: no call lifts one but a taken clear of it.
-use Rattle.record.specs.Meaning.{flag_number_of}
 use Rattle.std.specs.Prelude.{ℕ, ◌<◌, true, not, List, ◌≢◌, ◌≡◌}
 use Rattle.std.proofs.Math.Bool.{false}
 use Rattle.std.proofs.Common.{◌∙◌, arith}
@@ -76,7 +75,7 @@ module _ (k flag i : ℕ) (s : Rows) (h : stands k s (gate_state_row i)) where
 -- and of 2 and 3 each writes the other flag as it was
 module _ (i : ℕ) (small : i < gate_count) (s : Rows) where
   module _ (h : stands 0 s (gate_state_row i)) where
-    invalid_receive_clear_2 : (r : ClearRecord) → r.id < gate_count → flag_number_of r.flag ≡ 2 → After 0 2 i s h r (clear_invalid_receive_of s r.id)
+    invalid_receive_clear_2 : (r : ClearRecord) → r.id < gate_count → r.flag ≡ 2 → After 0 2 i s h r (clear_invalid_receive_of s r.id)
     unfolding clear_invalid_receive_of
     invalid_receive_clear_2 r l e =
         refused_by (After 0 2 i s h r) (not (gate_is_set s r.id)) NotSetUp s _ (λ x. h) (λ x. away 0 s (gate_state_row i) (gate_state_row r.id) _ (let n = other_id 2 i r e x in omega arith) h)
@@ -87,7 +86,7 @@ module _ (i : ℕ) (small : i < gate_count) (s : Rows) where
         refused_by (After 0 2 i s h r) (not (gate_is_set s r.id)) NotSetUp s _ (λ x. h)
         (λ x. flag_written 0 s (gate_state_row i) (gate_state_row r.id) (row_of_gate_state (with_flags (gate s r.id) (gate s r.id).invalid_receive_flag false)) (raised (gate s r.id).invalid_receive_flag) h)
 
-    invalid_receive_cleared : (r : ClearRecord) (row : Filter) → r.id < filter_count → (flag_number_of r.flag ≢ 1 → r.id < gate_count) → Spares 2 i r (clear_of s r row).verdict → stands 0 (clear_of s r row).bank (gate_state_row i)
+    invalid_receive_cleared : (r : ClearRecord) (row : Filter) → r.id < filter_count → (r.flag ≢ 1 → r.id < gate_count) → Spares 2 i r (clear_of s r row).verdict → stands 0 (clear_of s r row).bank (gate_state_row i)
     invalid_receive_cleared r row l l' =
         clear_by_lem (After 0 2 i s h r) s r row (λ e. clear_1 0 2 i s h r row) (λ e. invalid_receive_clear_2 r (l' (λ q. omega (arith, e, q))) e) (λ e. invalid_receive_clear_3 r) (λ e. clear_4 0 2 i s h r) (λ x. h)
 
@@ -98,12 +97,12 @@ module _ (i : ℕ) (small : i < gate_count) (s : Rows) where
         refused_by (After 1 3 i s h r) (not (gate_is_set s r.id)) NotSetUp s _ (λ x. h)
         (λ x. flag_written 1 s (gate_state_row i) (gate_state_row r.id) (row_of_gate_state (with_flags (gate s r.id) false (gate s r.id).octets_flag)) (raised (gate s r.id).octets_flag) h)
 
-    octets_clear_3 : (r : ClearRecord) → r.id < gate_count → flag_number_of r.flag ≡ 3 → After 1 3 i s h r (clear_octets_of s r.id)
+    octets_clear_3 : (r : ClearRecord) → r.id < gate_count → r.flag ≡ 3 → After 1 3 i s h r (clear_octets_of s r.id)
     unfolding clear_octets_of
     octets_clear_3 r l e =
         refused_by (After 1 3 i s h r) (not (gate_is_set s r.id)) NotSetUp s _ (λ x. h) (λ x. away 1 s (gate_state_row i) (gate_state_row r.id) _ (let n = other_id 3 i r e x in omega arith) h)
 
-    octets_cleared : (r : ClearRecord) (row : Filter) → r.id < filter_count → (flag_number_of r.flag ≢ 1 → r.id < gate_count) → Spares 3 i r (clear_of s r row).verdict → stands 1 (clear_of s r row).bank (gate_state_row i)
+    octets_cleared : (r : ClearRecord) (row : Filter) → r.id < filter_count → (r.flag ≢ 1 → r.id < gate_count) → Spares 3 i r (clear_of s r row).verdict → stands 1 (clear_of s r row).bank (gate_state_row i)
     octets_cleared r row l l' =
         clear_by_lem (After 1 3 i s h r) s r row (λ e. clear_1 1 3 i s h r row) (λ e. octets_clear_2 r) (λ e. octets_clear_3 r (l' (λ q. omega (arith, e, q))) e) (λ e. clear_4 1 3 i s h r) (λ x. h)
 

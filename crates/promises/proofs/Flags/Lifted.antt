@@ -12,7 +12,7 @@ use Rattle.record.specs.declared.Record.{Record}
 use Rattle.record.specs.declared.ClearRecord.{ClearRecord}
 use Rattle.record.specs.declared.Refusal.{Refusal}
 use Rattle.record.specs.declared.Refusal.TheVariants.{NotSetUp}
-use Rattle.record.specs.Meaning.{Reading, flag_number_of}
+use Rattle.record.specs.Meaning.{Reading}
 use Rattle.record.proofs.Sorts.{Sort, setup, arrival, clear, sort_of, setup_clear}
 use Rattle.bank.specs.Meaning.{Rows, counters, gate, gate_is_set, meter, meter_is_set}
 use Rattle.filter.specs.declared.Filter.{Filter}
@@ -45,19 +45,19 @@ refused_clears_none flag i (Ok (r, used)) why e = never (both (clear_in flag i r
 module _ (b : Bridge) (c : Call) (flag i : ℕ) where
   record Cleared (o : Took) : Type 0 where
     says : ClearRecord
-    of_flag : flag_number_of says.flag ≡ flag
+    of_flag : says.flag ≡ flag
     of_id : says.id ≡ i
     is_taken : (clear_of b.bank says (row_of b.table says.id)).verdict ≡ Taken
     leaves : o.after.bank ≡ (clear_of b.bank says (row_of b.table says.id)).bank
 
   record_clears : (r : Record) (used : ℕ) → Sort r → (clear_in flag i r && taken_in (taken_of b c r used).answer.verdict) ≡ true → Cleared (taken_of b c r used)
   unfolding taken_of
-  record_clears r used (setup h) e = never (sym (setup_clear (λ x. eqb (flag_number_of x.flag) flag && eqb x.id i) false r h) ∙ (both (clear_in flag i r) (taken_in (taken_of b c r used).answer.verdict) e).0)
+  record_clears r used (setup h) e = never (sym (setup_clear (λ x. eqb x.flag flag && eqb x.id i) false r h) ∙ (both (clear_in flag i r) (taken_in (taken_of b c r used).answer.verdict) e).0)
   record_clears r used (arrival a) e = never e
   record_clears r used (clear x) e =
       let t = clear_of b.bank x (row_of b.table x.id) in
-      let p = both (eqb (flag_number_of x.flag) flag && eqb x.id i) (taken_in (taken_of b c (kind.Clear x) used).answer.verdict) e in
-      let q = both (eqb (flag_number_of x.flag) flag) (eqb x.id i) p.0 in
+      let p = both (eqb x.flag flag && eqb x.id i) (taken_in (taken_of b c (kind.Clear x) used).answer.verdict) e in
+      let q = both (eqb x.flag flag) (eqb x.id i) p.0 in
       record { says = x; of_flag = eqb-true _ _ q.0; of_id = eqb-true _ _ q.1; is_taken = sym (answered_verdict used t.verdict) ∙ taken _ p.1; leaves = refl }
 
   called_clears : (o : Took) → Called b c o → clear_by flag i (reading_of b c) o.answer.verdict ≡ true → Cleared o

@@ -1,5 +1,4 @@
 -- Flag 1, a filter's oversize flag: no call lifts it but a taken clear of it.
-use Rattle.record.specs.Meaning.{flag_number_of}
 use Rattle.std.specs.Prelude.{ℕ, ◌<◌, true, false, not, List, ◌≢◌, ◌≡◌}
 use Rattle.std.proofs.Common.{arith}
 use Rattle.sizes.specs.Meaning.{filter_count, gate_count}
@@ -56,7 +55,7 @@ module _ (i : ℕ) where
     abbrev OversizeAfter : ClearRecord → Told → Type 0
     OversizeAfter r t = Spares 1 i r t.verdict → Oversize t.bank
 
-    oversize_clear_1 : (r : ClearRecord) (row : Filter) → r.id < filter_count → flag_number_of r.flag ≡ 1 → OversizeAfter r (clear_oversize_of s r.id row)
+    oversize_clear_1 : (r : ClearRecord) (row : Filter) → r.id < filter_count → r.flag ≡ 1 → OversizeAfter r (clear_oversize_of s r.id row)
     unfolding clear_oversize_of
     oversize_clear_1 r row l e =
         refused_by (OversizeAfter r) (not (counts_of s row)) NotSetUp s _ (λ k. h)
@@ -74,7 +73,7 @@ module _ (i : ℕ) where
     unfolding clear_red_of
     oversize_clear_4 r = refused_by (OversizeAfter r) _ NotSetUp s _ (λ k. h) (λ k. away 6 s (counters_row i) (meter_state_row r.id) _ (omega arith) h)
 
-    oversize_cleared : (r : ClearRecord) (row : Filter) → r.id < filter_count → (flag_number_of r.flag ≢ 1 → r.id < gate_count) → Spares 1 i r (clear_of s r row).verdict → Oversize (clear_of s r row).bank
+    oversize_cleared : (r : ClearRecord) (row : Filter) → r.id < filter_count → (r.flag ≢ 1 → r.id < gate_count) → Spares 1 i r (clear_of s r row).verdict → Oversize (clear_of s r row).bank
     oversize_cleared r row l l' = clear_by_lem (OversizeAfter r) s r row (oversize_clear_1 r row l) (λ e. oversize_clear_2 r) (λ e. oversize_clear_3 r) (λ e. oversize_clear_4 r) (λ k. h)
 
 -- after every call but a taken clear of flag 1 and this id

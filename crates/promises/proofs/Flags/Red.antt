@@ -1,6 +1,5 @@
 -- Flag 4, the red flag of a meter that is set up: no call lifts it but a taken clear of it. (Before a meter is set up no frame reaches it; its
 -- record puts the flag down.)
-use Rattle.record.specs.Meaning.{flag_number_of}
 use Rattle.std.specs.Prelude.{ℕ, ◌<◌, false, not, List, ◌≢◌, ◌≡◌}
 use Rattle.std.proofs.Math.Bool.{true}
 use Rattle.std.proofs.Common.{sym, ◌∙◌, arith}
@@ -100,11 +99,11 @@ module _ (i : ℕ) where
     unfolding clear_octets_of
     red_clear_3 r = refused_by (RedAfter r) (not (gate_is_set s r.id)) NotSetUp s _ (λ x. h) (λ x. red_away s (gate_state_row r.id) _ (omega arith) (omega arith) h)
 
-    red_clear_4 : (r : ClearRecord) → r.id < meter_count → flag_number_of r.flag ≡ 4 → RedAfter r (clear_red_of s r.id)
+    red_clear_4 : (r : ClearRecord) → r.id < meter_count → r.flag ≡ 4 → RedAfter r (clear_red_of s r.id)
     unfolding clear_red_of
     red_clear_4 r l e = refused_by (RedAfter r) (not (meter_is_set s r.id)) NotSetUp s _ (λ x. h) (λ x. red_away s (meter_state_row r.id) _ (omega arith) (let n = other_id 4 i r e x in omega arith) h)
 
-    red_cleared : (r : ClearRecord) (row : Filter) → r.id < filter_count → (flag_number_of r.flag ≢ 1 → r.id < gate_count) → Spares 4 i r (clear_of s r row).verdict → Red (clear_of s r row).bank
+    red_cleared : (r : ClearRecord) (row : Filter) → r.id < filter_count → (r.flag ≢ 1 → r.id < gate_count) → Spares 4 i r (clear_of s r row).verdict → Red (clear_of s r row).bank
     red_cleared r row l l' = clear_by_lem (RedAfter r) s r row (λ e. red_clear_1 r row) (λ e. red_clear_2 r) (λ e. red_clear_3 r) (λ e. red_clear_4 r (l' (λ q. omega (arith, e, q))) e) (λ x. h)
 
 -- after every call but a taken clear of flag 4 and this id; and the meter stays set up

@@ -7,7 +7,7 @@ use Rattle.sizes.specs.Meaning.{filter_count, gate_count}
 use Rattle.record.specs.declared.Record.{Record}
 use Rattle.record.specs.declared.ArrivalRecord.{ArrivalRecord}
 use Rattle.record.specs.declared.ClearRecord.{ClearRecord}
-use Rattle.record.specs.Meaning.{Reading, flag_number_of}
+use Rattle.record.specs.Meaning.{Reading}
 use Rattle.record.proofs.Sorts.{Setup, Sort, setup, arrival, clear, sort_of}
 use Rattle.record.proofs.Ranges.{read_ranges}
 use Rattle.bank.specs.Meaning.{Rows, with_row, word, is_set}
@@ -56,8 +56,8 @@ raised b e = is_set_back b ∙ e
 abbrev pub Spares : ℕ → ℕ → ClearRecord → Verdict → Type 0
 Spares flag i r v = (clear_in flag i (kind.Clear r) && taken_in v) ≡ false
 
-pub other_id : (flag i : ℕ) (r : ClearRecord) → flag_number_of r.flag ≡ flag → Spares flag i r Taken → r.id ≢ i
-other_id flag i r e h q = by_test (eqb (flag_number_of r.flag) flag) (eqb r.id i) (eq-eqb _ _ e) (eq-eqb _ _ q) h
+pub other_id : (flag i : ℕ) (r : ClearRecord) → r.flag ≡ flag → Spares flag i r Taken → r.id ≢ i
+other_id flag i r e h q = by_test (eqb r.flag flag) (eqb r.id i) (eq-eqb _ _ e) (eq-eqb _ _ q) h
   where
     by_test : (a b : Bool) → a ≡ true → b ≡ true → ((a && b) && true) ≡ false → ⊥
     by_test true true p q e' = let z : ◌≡◌ {A = ℕ} 0 1 = cc in omega arith
@@ -69,7 +69,7 @@ other_id flag i r e h q = by_test (eqb (flag_number_of r.flag) flag) (eqb r.id i
 module _ (b : Bridge) (c : Call) (S : Rows → Type 0) (flag i : ℕ) (now : S b.bank) where
   module _ (setups : (r : Record) (used : ℕ) → Setup r → S (taken_of b c r used).after.bank)
       (arrivals : (a : ArrivalRecord) (found : Found) → S (arrival_of b.bank b.lists a found).bank)
-      (cleared : (r : ClearRecord) (row : Filter) → r.id < filter_count → (flag_number_of r.flag ≢ 1 → r.id < gate_count) → Spares flag i r (clear_of b.bank r row).verdict → S (clear_of b.bank r row).bank) where
+      (cleared : (r : ClearRecord) (row : Filter) → r.id < filter_count → (r.flag ≢ 1 → r.id < gate_count) → Spares flag i r (clear_of b.bank r row).verdict → S (clear_of b.bank r row).bank) where
     sorted : (r : Record) (used : ℕ) → reading_of b c ≡ Ok (r, used) → Sort r → clear_by flag i (Ok (r, used)) (taken_of b c r used).answer.verdict ≡ false → S (taken_of b c r used).after.bank
     unfolding taken_of
     sorted r used e (setup h) k = setups r used h

@@ -55,7 +55,7 @@ pub record PortSaid (o : Option PortRecord) (set overhead : ℕ) : Type 0 where
 -- a gate's row, with n entries
 abbrev pub gate_row_said : Option GateRecord → ℕ → List ℕ
 gate_row_said none n = 0 ∷ 0 ∷ 0 ∷ 0 ∷ 0 ∷ 0 ∷ n ∷ 0 ∷ []
-gate_row_said (some r) n = 1 ∷ bool_byte r.opened ∷ r.ipv ∷ bool_byte r.invalid_receive_block ∷ bool_byte r.octets_block ∷ r.base_time ∷ n ∷ 0 ∷ []
+gate_row_said (some r) n = 1 ∷ bool_byte (is_set r.state) ∷ r.ipv ∷ bool_byte (is_set r.invalid_receive_block) ∷ bool_byte (is_set r.octets_block) ∷ r.base_time ∷ n ∷ 0 ∷ []
 
 pub record GateSaid (o : Option GateRecord) (es : List GateEntryRecord) (row : List ℕ) : Type 0 where
   pub words : row ≡ gate_row_said o (length es)
@@ -64,7 +64,7 @@ pub record GateSaid (o : Option GateRecord) (es : List GateEntryRecord) (row : L
 
 -- a meter as its record sets it up
 abbrev pub meter_said : MeterRecord → Meter
-meter_said r = fresh_meter_of r.cir r.cbs r.eir r.ebs r.coupling r.colour_aware r.drop_on_yellow r.red_block
+meter_said r = fresh_meter_of r.cir r.cbs r.eir r.ebs (is_set r.coupling) (is_set r.colour_aware) (is_set r.drop_on_yellow) (is_set r.red_block)
 
 abbrev pub meter_row_said : Option MeterRecord → List ℕ
 meter_row_said none = 0 ∷ 0 ∷ 0 ∷ 0 ∷ 0 ∷ 0 ∷ 0 ∷ 0 ∷ []
@@ -92,7 +92,7 @@ pub record RowSaid (k : Known) (q : ℕ) (row : List ℕ) : Type 0 where
   pub ports : (i : ℕ) → i < port_count → q ≡ port_row i → PortSaid (k.port i) (word row 0) (word row 1)
   pub gates : (i : ℕ) → i < gate_count → q ≡ gate_row i → GateSaid (k.gate i) (k.entries i) row
   pub meters : (i : ℕ) → i < meter_count → q ≡ meter_row i → MeterSaid (k.meter i) row
-  pub meter_states : (i : ℕ) → i < meter_count → q ≡ meter_state_row i → is_set (word row 4) ≡ of_it (λ r. r.red_block) false (k.meter i)
+  pub meter_states : (i : ℕ) → i < meter_count → q ≡ meter_state_row i → is_set (word row 4) ≡ of_it (λ r. is_set r.red_block) false (k.meter i)
   pub groups : (i : ℕ) → i < group_count → q ≡ group_row i → GroupSaid (k.group i) (word row 0) (word row 1)
   pub schedulers : (i : ℕ) → i < scheduler_count → q ≡ scheduler_row i → SchedulerSaid (k.scheduler i) (word row 0) (word row 1) (word row 2) (word row 3)
 
@@ -157,7 +157,7 @@ module _ {k : Known} {row : List ℕ} where
     schedulers = λ j h e. absurd (omega arith);
   }
 
-  pub of_meter_state : (i : ℕ) → ((j : ℕ) → j < meter_count → meter_state_row i ≡ meter_state_row j → is_set (word row 4) ≡ of_it (λ r. r.red_block) false (k.meter j)) → RowSaid k (meter_state_row i) row
+  pub of_meter_state : (i : ℕ) → ((j : ℕ) → j < meter_count → meter_state_row i ≡ meter_state_row j → is_set (word row 4) ≡ of_it (λ r. is_set r.red_block) false (k.meter j)) → RowSaid k (meter_state_row i) row
   of_meter_state i own = record {
     stage = λ e. absurd (omega arith);
     ports = λ j h e. absurd (omega arith);

@@ -10,7 +10,7 @@ use Rattle.gate.specs.Meaning.{word_of, entry_at, entries_from, entries_in, entr
 use Rattle.record.specs.declared.GateEntryRecord.{GateEntryRecord}
 use Rattle.record.specs.declared.Kind.{Kind}
 use Rattle.record.specs.declared.Kind.TheVariants.{Port as port, Filter as filter, Gate as gate, GateEntry as gate_entry, Meter as meter, Group as group, Scheduler as scheduler, Start as start, Arrival as arrival, Clear as clear}
-use Rattle.record.specs.Meaning.{fields_of, values_at, record_of, body_in, read_of, raised}
+use Rattle.record.specs.Meaning.{fields_of, values_at, record_of, body_in, read_of}
 use Rattle.record.proofs.Laws.{read_says, read_uses}
 use Rattle.record.proofs.BodyLaws.{body_octet, read_entry_body}
 use Rattle.setup.specs.Meaning.{entry_body_of}
@@ -41,7 +41,7 @@ entry_kept c started r used e =
     let y = read_says c started (kind.GateEntry r) used e in
     let x : GateEntryRecord = record {
       gate = get_or c 1 0;
-      opened = raised (get_or c 2 0);
+      state = get_or c 2 0;
       ipv = get_or c 3 0;
       interval = ((get_or c 4 0 * 256 + get_or c 5 0) * 256 + get_or c 6 0) * 256 + get_or c 7 0;
       octet_maximum = ((get_or c 8 0 * 256 + get_or c 9 0) * 256 + get_or c 10 0) * 256 + get_or c 11 0;

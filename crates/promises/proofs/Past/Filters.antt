@@ -1,6 +1,5 @@
 -- Kind 2: the row of a filter record that is read is a filter, so that a second record of that filter is refused with 5.
-use Rattle.std.specs.Prelude.{ℕ, ◌≤◌, Bool, true, cond, ◌||◌, List, ◌⊎◌, ◌≡◌, eqb, leb, length, set, Ok, false, Option, Some, None, is_none, unwrap_or, refl}
-use mir.Val.{bool_byte}
+use Rattle.std.specs.Prelude.{ℕ, ◌≤◌, Bool, true, cond, ◌||◌, List, ◌⊎◌, ◌≡◌, eqb, leb, length, set, Ok}
 use Rattle.std.proofs.Common.{⊎_elim, sym, ap, subst, ◌∙◌, arith, eq-eqb, le-leb, length-set, get_or-set_same}
 use Rattle.std.proofs.lemmas.Bool.{eqb-false}
 use Rattle.sizes.specs.Meaning.{filter_count, last_gate, last_meter, last_scheduler}
@@ -24,23 +23,18 @@ unfolding is_filter_of row_in_range
 filter_ranged x ranged =
     let h = ranged.ranges in
     rw (
-      flag_low (is_none x.handle),
-      any_or x.handle,
-      le-leb x.priority 8 h.2,
-      le-leb x.gate last_gate h.3,
-      le-leb x.max_sdu 2000 h.4,
-      flag_low x.oversize_block,
-      none_or x.meter last_meter h.5,
-      none_or x.scheduler last_scheduler h.6,
+      le-leb x.any_handle 1 h.2,
+      any_or x.any_handle x.handle h.2 h.3,
+      le-leb x.priority 8 h.4,
+      le-leb x.gate last_gate h.5,
+      le-leb x.max_sdu 2000 h.6,
+      le-leb x.oversize_block 1 h.7,
+      none_or x.meter last_meter h.8,
+      none_or x.scheduler last_scheduler h.9,
     )
   where
-    flag_low : (flag : Bool) → leb (bool_byte flag) 1 ≡ true
-    flag_low true = refl
-    flag_low false = refl
-
-    any_or : (handle : Option ℕ) → (eqb (bool_byte (is_none handle)) 0 || eqb (unwrap_or handle 0) 0) ≡ true
-    any_or None = refl
-    any_or (Some n) = refl
+    any_or : (all handle : ℕ) → all ≤ 1 → (all ≡ 1 → handle ≡ 0) → (eqb all 0 || eqb handle 0) ≡ true
+    any_or all handle low zero-then = by_test (eqb all 0) (λ t. rw t) (λ t. rw t (eq-eqb handle 0 (zero-then (omega (arith, low, eqb-false all 0 t)))))
 
 pub filter_read : (c : List ℕ) (started : Bool) (x : FilterRecord) (used : ℕ) → read_of c started ≡ Ok (kind.Filter x, used) → is_filter_of (filter_of x) ≡ true
 filter_read c started x used said = filter_ranged x (record { used = used; ranges = read_ranges c started (kind.Filter x) used said })

@@ -197,7 +197,7 @@ module _ (k : Known) (s : Rows) (all : BankSaid k s) where
     meter_own = of_meter_lem x.id (λ i h e. rw (own_record x (k.meter i) x.id i (omega (arith, ranged.ranges))) (record { words = refl; ranged = ranged }))
 
     meter_state_own : RowSaid meter_known (meter_state_row x.id) (row_of_meter_state (meter_said x))
-    meter_state_own = of_meter_state x.id (λ i h e. rw (own_record x (k.meter i) x.id i (omega (arith, ranged.ranges))) (is_set_back x.red_block))
+    meter_state_own = of_meter_state x.id (λ i h e. rw (own_record x (k.meter i) x.id i (omega (arith, ranged.ranges))) (is_set_back (is_set x.red_block)))
 
     pub meter_said_lem : BankSaid meter_known (with_meter s x.id (meter_said x))
     meter_said_lem =

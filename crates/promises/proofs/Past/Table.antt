@@ -9,7 +9,7 @@ use Rattle.logic.specs.Laws.{by_test}
 use Rattle.record.specs.declared.Record.{Record}
 use Rattle.record.specs.declared.ClearRecord.{ClearRecord}
 use Rattle.record.specs.declared.Kind.{Kind}
-use Rattle.record.specs.Meaning.{kind_of, comes, in_turn_of, fields_in_range, record_of, record_length, fields_of, values_at, read_of, flag_number_of}
+use Rattle.record.specs.Meaning.{kind_of, comes, in_turn_of, fields_in_range, record_of, record_length, fields_of, values_at, read_of}
 use Rattle.record.proofs.Sorts.{turn_in}
 use Rattle.record.proofs.Laws.{says_read, read_in_turn}
 use Rattle.record.proofs.Ranges.{read_ranges}
@@ -40,10 +40,10 @@ module _ (k : Known) (b : Bridge) (a : Agrees k b) where
 
   clearable_said : (x : ClearRecord) → InRange (kind.Clear x) → started_in k ≡ true → clearable_of b x ≡ clearable_in k x
   clearable_said x ranged started =
-      by_test (eqb (flag_number_of x.flag) 1)
+      by_test (eqb x.flag 1)
       (λ t. rw t (counts_said k s a.bank (k.filter x.id) (row_of b.table x.id) (a.filters x.id) (a.complete started x.id (omega (arith, ranged.ranges)))))
       (λ t.
-      let low : x.id ≤ last_gate = ranged.ranges.2 (eqb-false (flag_number_of x.flag) 1 t) in
+      let low : x.id ≤ last_gate = ranged.ranges.4 (eqb-false x.flag 1 t) in
       rw (t, gate_set k s a.bank x.id (omega (arith, low)), meter_set k s a.bank x.id (omega (arith, low))))
 
   same_tries : (r : Record) → InRange r → comes (turn_in r) (started_in k) ≡ true → record_tries b r ≡ record_tries_in k r

@@ -1,6 +1,5 @@
 -- No octet of a line is ever left out: no frame that a bridge can be given has a longer line than the room that is kept for one, so that a run which
 -- begins with that room prints the lines of its answers whole.
-use Rattle.record.specs.Meaning.{flag_number_of}
 use Rattle.std.specs.Prelude.{ℕ, ◌+◌, ◌%◌, ◌^◌, ◌<◌, Bool, true, false, List, ◌≡◌, refl, eqb, ltb, length, Ok}
 use Rattle.std.proofs.Common.{sym, ap, subst, ◌∙◌, arith}
 use Rattle.sizes.specs.Meaning.{filter_count, entry_count}
@@ -51,10 +50,10 @@ Answered x = Plain x.verdict
 clear_plain : (s : Rows) (r : ClearRecord) (row : Filter) → Answered (clear_of s r row)
 unfolding clear_of clear_oversize_of clear_invalid_receive_of clear_octets_of clear_red_of
 clear_plain s r row =
-    if_by Answered (eqb (flag_number_of r.flag) 1) _ _ (λ e. if_plain _ _ s _ taken)
-    (λ e. if_by Answered (eqb (flag_number_of r.flag) 2) _ _ (λ e. if_plain _ _ s _ taken)
-    (λ e. if_by Answered (eqb (flag_number_of r.flag) 3) _ _ (λ e. if_plain _ _ s _ taken)
-    (λ e. if_by Answered (eqb (flag_number_of r.flag) 4) _ _ (λ e. if_plain _ _ s _ taken) (λ e. refused _))))
+    if_by Answered (eqb r.flag 1) _ _ (λ e. if_plain _ _ s _ taken)
+    (λ e. if_by Answered (eqb r.flag 2) _ _ (λ e. if_plain _ _ s _ taken)
+    (λ e. if_by Answered (eqb r.flag 3) _ _ (λ e. if_plain _ _ s _ taken)
+    (λ e. if_by Answered (eqb r.flag 4) _ _ (λ e. if_plain _ _ s _ taken) (λ e. refused _))))
 
 never_passed : {A : Type 0} {v : Verdict} (p : Pass) → Plain v → v ≡ Passed p → A
 never_passed p (refused why) e = absurd (let z : ◌≡◌ {A = ℕ} 0 1 = cc in omega arith)
@@ -85,7 +84,7 @@ module _ (b : Bridge) (reached : Reached b) (full : length b.table ≡ filter_co
   pass_brief o (read r used whole said) q p e n =
       let arrival = passed_arrival b c p r used e in
       let h = pass_in_bounds b reached full c arrival.0 used (said ∙ ap (λ (x : Record). Ok (x, used)) arrival.1) p (ap (λ (x : Took). x.answer.verdict) q ∙ e) in
-      pass_room ((n + 1) % 2 ^ 64) (omega arith) p (omega (arith, h.0)) (omega (arith, h.1)) (λ at t. omega (arith, h.3 at t))
+      pass_room ((n + 1) % 2 ^ 64) (omega arith) p (omega (arith, h.0)) (omega (arith, h.1)) (omega (arith, h.2)) (λ at t. omega (arith, h.3 at t))
 
   verdict_brief : (v : Verdict) → (take_of b c).answer.verdict ≡ v → Brief v
   verdict_brief (Refused why) e n = omega arith

@@ -18,7 +18,7 @@ use Rattle.record.specs.declared.SchedulerRecord.{SchedulerRecord}
 use Rattle.record.specs.declared.StartRecord.{StartRecord}
 use Rattle.record.specs.declared.Refusal.{Refusal}
 use Rattle.record.specs.declared.Refusal.TheVariants.{CutShort, OutOfRange, OutOfTurn, SetUpAlready, NinthEntry, Missing, BurstTooSmall, NotSetUp, TableLength}
-use Rattle.record.specs.Meaning.{Reading, flag_number_of}
+use Rattle.record.specs.Meaning.{Reading}
 use Rattle.record.specs.declared.Kind.{Kind}
 use Rattle.record.specs.Meaning.{body_in, kind_of, fields_of, values_at, fields_in_range, refusal_number_of, record_length, length_in, in_turn_of, read_as, read_of}
 use Rattle.bank.specs.Meaning.{Rows, component, port, entries, gate_is_set, meter_is_set, group, scheduler_is_set}
@@ -71,10 +71,10 @@ clear_number b r =
     let counts = counts_of b.bank row in
     let gated = gate_is_set b.bank r.id in
     let metered = meter_is_set b.bank r.id in
-    flag_number (eqb (flag_number_of r.flag) 1) (clear_oversize_of b.bank r.id row) _ counts _ (if_number (not counts) NotSetUp _ _)
-    (flag_number (eqb (flag_number_of r.flag) 2) (clear_invalid_receive_of b.bank r.id) _ gated _ (if_number (not gated) NotSetUp _ _)
-    (flag_number (eqb (flag_number_of r.flag) 3) (clear_octets_of b.bank r.id) _ gated _ (if_number (not gated) NotSetUp _ _)
-    (flag_number (eqb (flag_number_of r.flag) 4) (clear_red_of b.bank r.id) (told b.bank (Refused NotSetUp)) metered false (if_number (not metered) NotSetUp _ _) refl)))
+    flag_number (eqb r.flag 1) (clear_oversize_of b.bank r.id row) _ counts _ (if_number (not counts) NotSetUp _ _)
+    (flag_number (eqb r.flag 2) (clear_invalid_receive_of b.bank r.id) _ gated _ (if_number (not gated) NotSetUp _ _)
+    (flag_number (eqb r.flag 3) (clear_octets_of b.bank r.id) _ gated _ (if_number (not gated) NotSetUp _ _)
+    (flag_number (eqb r.flag 4) (clear_red_of b.bank r.id) (told b.bank (Refused NotSetUp)) metered false (if_number (not metered) NotSetUp _ _) refl)))
 
 module _ (s : Rows) where
   port_number : (r : PortRecord) → refusal_in (set_port_of s r).verdict ≡ cond (port s r.port).set 5 0

@@ -24,7 +24,7 @@ module _ (b : Bridge) (c : Call) (k : Sound b.bank) where
   pub arrival_ready : (a : ArrivalRecord) (used : ℕ) → read_of c (started_of b.bank) ≡ Ok (kind.Arrival a, used) → Ready b a
   arrival_ready a used e =
       let h = read_ranges c (started_of b.bank) (kind.Arrival a) used e in
-      record { sound = k; begun = read_in_turn c (started_of b.bank) (kind.Arrival a) used e; time_high = h.2; priority_high = h.3; msdu_high = h.4 }
+      record { sound = k; begun = read_in_turn c (started_of b.bank) (kind.Arrival a) used e; time_high = h.2; priority_high = h.3; mark_high = h.4; msdu_high = h.5 }
 
   record_sound : (r : Record) (used : ℕ) → read_of c (started_of b.bank) ≡ Ok (r, used) → Sort r → Sound (taken_of b c r used).after.bank
   unfolding taken_of

@@ -22,13 +22,13 @@ module _ (b : Bridge) (a : ArrivalRecord) where
   Told = (v : Verdict) × Given b a v
 
   module _ (f : ℕ) (row : Filter) where
-    at_scheduler : (ipv : ℕ) (mark : Bool) → AtScheduler b a f row ipv mark → Told
+    at_scheduler : (ipv mark : ℕ) → AtScheduler b a f row ipv mark → Told
     at_scheduler ipv mark h =
         by_test (leb (eligible_at b a row.scheduler) (latest_at b a row.scheduler))
         (λ e. (_, scheduled f row ipv mark h (leb-true _ _ e)))
         (λ e. (_, drop_8 (record { filter = f; row = row; ipv = ipv; mark = mark; at_scheduler = h; exceeds = leb-false _ _ e })))
 
-    past_meter : (ipv : ℕ) (mark : Bool) → PastMeter b a f row ipv mark → Told
+    past_meter : (ipv mark : ℕ) → PastMeter b a f row ipv mark → Told
     past_meter ipv mark h =
         by_test (eqb row.scheduler 255)
         (λ e. (_, unscheduled f row ipv mark h (eqb-true _ _ e)))

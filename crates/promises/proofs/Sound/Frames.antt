@@ -102,7 +102,7 @@ module _ (b : Bridge) (a : ArrivalRecord) (ready : Ready b a) where
   msdu = record { 0 = a.msdu }
 
   abbrev eligible : Bool
-  eligible = a.drop_eligible
+  eligible = is_set a.drop_eligible
 
   -- the clock stands at the arrival
   abbrev t₁ : Rows
@@ -218,12 +218,12 @@ module _ (b : Bridge) (a : ArrivalRecord) (ready : Ready b a) where
   -- ---- step 5
 
   -- the bank that the frame comes with
-  pub record Past (row : Filter) (priority : ℕ) (mark : Bool) : Type 0 where
+  pub record Past (row : Filter) (priority mark : ℕ) : Type 0 where
     pub bank : Rows
     pub on_its_way : OnWay a s groups_from bank
     pub goes : arrived ≡ scheduled_of bank a row priority mark
 
-  pub step_5 : (f : ℕ) (row : Filter) (ipv : ℕ) (mark : Bool) → AtMeter b a f row ipv → Marked b a row mark → Past row (internal_of ipv a.priority) mark
+  pub step_5 : (f : ℕ) (row : Filter) (ipv mark : ℕ) → AtMeter b a f row ipv → Marked b a row mark → Past row (internal_of ipv a.priority) mark
   unfolding metered_by
   step_5 f row ipv mark m (unmetered e) =
       let w = at_meter f row m.at_gate in
@@ -238,7 +238,7 @@ module _ (b : Bridge) (a : ArrivalRecord) (ready : Ready b a) where
   abbrev Answers : Verdict → Told → Type 0
   Answers v t = (t.verdict ≡ v) × Sound t.bank
 
-  module _ (f : ℕ) (row : Filter) (ipv : ℕ) (mark : Bool) (there : AtScheduler b a f row ipv mark) (t : Rows) (w : OnWay a s groups_from t) where
+  module _ (f : ℕ) (row : Filter) (ipv mark : ℕ) (there : AtScheduler b a f row ipv mark) (t : Rows) (w : OnWay a s groups_from t) where
     abbrev i : ℕ
     i = row.scheduler
 

@@ -89,7 +89,7 @@ module _ (s : Rows) (k : Sound s) where
   pub meter_record_sound : (r : MeterRecord) (used : ℕ) → Ranged (kind.Meter r) used → AfterTold (set_meter_of s r)
   unfolding set_meter_of
   meter_record_sound r used h =
-      let x = fresh_meter_of r.cir r.cbs r.eir r.ebs r.coupling r.colour_aware r.drop_on_yellow r.red_block in
+      let x = fresh_meter_of r.cir r.cbs r.eir r.ebs (is_set r.coupling) (is_set r.colour_aware) (is_set r.drop_on_yellow) (is_set r.red_block) in
       refused_by AfterTold (meter_is_set s r.id) SetUpAlready s _ k
       (meter_sound s k r.id x (record { sound = fresh_sound r.cir r.cbs r.eir r.ebs _ _ _ _ h.2 h.3 h.4 h.5; last_high = omega arith }))
 

@@ -30,6 +30,7 @@ pub record Ready (b : Bridge) (a : ArrivalRecord) : Type 0 where
   pub begun : started_of b.bank ≡ true
   pub time_high : a.time ≤ 2 ^ 62
   pub priority_high : a.priority ≤ 7
+  pub mark_high : a.drop_eligible ≤ 1
   pub msdu_high : a.msdu ≤ 2000
 
 module _ (b : Bridge) (a : ArrivalRecord) (ready : Ready b a) where
@@ -48,7 +49,7 @@ module _ (b : Bridge) (a : ArrivalRecord) (ready : Ready b a) where
   internal_high ipv = if_by (λ n. n ≤ 7) (leb ipv 7) _ _ (leb-true ipv 7) (λ e. ready.priority_high)
 
   -- in any bank that has the same number of classes
-  pub pass_is : (t : Rows) → (component t).classes ≡ (component s).classes → (priority : ℕ) (mark : Bool) (eligible : Option ℕ) → priority ≤ 7 → pass_of t priority mark eligible ≡ Passed (pass_at b priority mark eligible)
+  pub pass_is : (t : Rows) → (component t).classes ≡ (component s).classes → (priority mark : ℕ) (eligible : Option ℕ) → priority ≤ 7 → pass_of t priority mark eligible ≡ Passed (pass_at b priority mark eligible)
   unfolding pass_of traffic_class_of
   pass_is t e priority mark eligible h =
       let few : (component s).classes % 2 ^ 8 ≡ (component s).classes = omega (arith, ready.sound.classes) in
@@ -64,12 +65,12 @@ module _ (b : Bridge) (a : ArrivalRecord) (ready : Ready b a) where
   pub meter_in_range_lem : (i : ℕ) → InRange (meter s i) a.time (record { 0 = a.msdu })
   meter_in_range_lem i = record { sound = (ready.sound.meters i).sound; time_high = ready.time_high; msdu_high = ready.msdu_high }
 
-  pub coloured_is : (component s).clock ≤ a.time → (i : ℕ) → coloured_of s a i ≡ painted_of (filled_of (meter s i) a.time) (grains a.msdu) a.drop_eligible
+  pub coloured_is : (component s).clock ≤ a.time → (i : ℕ) → coloured_of s a i ≡ painted_of (filled_of (meter s i) a.time) (grains a.msdu) (is_set a.drop_eligible)
   coloured_is timely i = colour_painted (meter s i) a.time _ _ (in_range_back _ _ _ (meter_in_range_lem i)) (omega (arith, timely, (ready.sound.meters i).last_high))
 
   -- ---- the scheduler
 
-  module _ (f : ℕ) (row : Filter) (ipv : ℕ) (mark : Bool) (there : AtScheduler b a f row ipv mark) where
+  module _ (f : ℕ) (row : Filter) (ipv mark : ℕ) (there : AtScheduler b a f row ipv mark) where
     abbrev i : ℕ
     i = row.scheduler
 

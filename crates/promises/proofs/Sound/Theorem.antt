@@ -2,7 +2,6 @@
 -- gives, and no other. A meter or a scheduler that a frame reaches never refuses it, and its class is always that of the table.
 use Rattle.std.specs.Prelude.{ℕ, ◌+◌, ◌^◌, ◌≤◌, ◌<◌, Bool, true, false, cond, List, [], ◌∷◌, ◌≢◌, ◌↔◌, ◌≡◌, refl, leb, length, Ok, Some, None}
 use Rattle.std.specs.Prelude.{Option}
-use mir.Val.{bool_byte}
 use Rattle.std.proofs.Common.{sym, subst, ◌∙◌, arith, leb-true, leb-false, eq-eqb}
 use Rattle.std.proofs.Math.Path.{ap}
 use Rattle.sizes.specs.Meaning.{filter_count}
@@ -58,11 +57,6 @@ in_bounds reached =
     record { clock = k.clock; meters = λ i. (k.meters i).last_high; schedulers = λ i. (k.schedulers i).last_high; groups = λ i. (k.groups i).last_high }
 
 -- ---- one frame
-
--- a flag's number is 0 or 1
-mark_high : (mark : Bool) → bool_byte mark ≤ 1
-mark_high true = omega arith
-mark_high false = omega arith
 
 -- no time is none, and two that are the same option are the same
 untimed : {A : Type 0} {at : ℕ} → ◌≡◌ {A = Option ℕ} None (Some at) → A
@@ -146,17 +140,22 @@ module _ (b : Bridge) (reached : Reached b) (whole : length b.table ≡ filter_c
       omega (arith, h.1, class_below p.priority (component b.bank).classes (table_of p.priority (component b.bank).classes h.0))
 
   -- and no number in it is out of document 01's bounds
-  pub pass_in_bounds : (p : Pass) → verdict ≡ Passed p → (p.priority ≤ 7) × (p.class < 8) × (bool_byte p.drop_mark ≤ 1) × ((at : ℕ) → p.eligible ≡ Some at → at ≤ 2 ^ 62 + 1_000_000_000)
+  pub pass_in_bounds : (p : Pass) → verdict ≡ Passed p → (p.priority ≤ 7) × (p.class < 8) × (p.drop_mark ≤ 1) × ((at : ℕ) → p.eligible ≡ Some at → at ≤ 2 ^ 62 + 1_000_000_000)
   pass_in_bounds p e =
       let class : p.class < 8 = omega (arith, class_below_classes p e, ready.sound.classes) in
       let others = by_case p (given_verdict (Passed p) e) in
       (others.0, class, others.1.0, others.1.1)
     where
-      by_case : (p : Pass) → Given b a (Passed p) → (p.priority ≤ 7) × ((bool_byte p.drop_mark ≤ 1) × ((at : ℕ) → p.eligible ≡ Some at → at ≤ 2 ^ 62 + 1_000_000_000))
-      by_case p (unmatched h h') = (ready.priority_high, (mark_high p.drop_mark, λ at. untimed))
-      by_case p (unscheduled f row ipv mark h h') = (internal_high b a ready ipv, (mark_high mark, λ at. untimed))
+      mark_high : (row : Filter) (mark : ℕ) → Marked b a row mark → mark ≤ 1
+      mark_high row mark (unmetered h) = ready.mark_high
+      mark_high row mark (green h h') = ready.mark_high
+      mark_high row mark (yellow h h') = omega arith
+
+      by_case : (p : Pass) → Given b a (Passed p) → (p.priority ≤ 7) × ((p.drop_mark ≤ 1) × ((at : ℕ) → p.eligible ≡ Some at → at ≤ 2 ^ 62 + 1_000_000_000))
+      by_case p (unmatched h h') = (ready.priority_high, (ready.mark_high, λ at. untimed))
+      by_case p (unscheduled f row ipv mark h h') = (internal_high b a ready ipv, (mark_high row mark h.marked, λ at. untimed))
       by_case p (scheduled f row ipv mark h h') =
-          (internal_high b a ready ipv, (mark_high mark, λ at t. omega (arith, timed_same t, h', ready.time_high, (ready.sound.groups (scheduler_group b.bank row.scheduler)).residence_high)))
+          (internal_high b a ready ipv, (mark_high row mark h.past_meter.marked, λ at t. omega (arith, timed_same t, h', ready.time_high, (ready.sound.groups (scheduler_group b.bank row.scheduler)).residence_high)))
 
   -- ---- no step refuses a frame that comes to it
 
@@ -170,7 +169,7 @@ module _ (b : Bridge) (reached : Reached b) (whole : length b.table ≡ filter_c
   pub meter_on_path : (f : ℕ) (row : Filter) (ipv : ℕ) → AtMeter b a f row ipv → row.meter ≢ 255 → (s : Rows) × (handled ≡ metered_by s a f row (internal_of ipv a.priority) (coloured_of b.bank a row.meter).outcome)
   meter_on_path f row ipv m n = (t₅ b a ready f row, by_meter b a ready f row ipv m n _ (ap (λ x. x.outcome) (sym (coloured_is b a ready m.at_gate.matched.timely row.meter))))
 
-  module _ (f : ℕ) (row : Filter) (ipv : ℕ) (mark : Bool) (there : AtScheduler b a f row ipv mark) where
+  module _ (f : ℕ) (row : Filter) (ipv mark : ℕ) (there : AtScheduler b a f row ipv mark) where
     abbrev i : ℕ
     i = row.scheduler
 

@@ -1,7 +1,7 @@
 -- What lifts a flag: a clear of that flag (by document 01's number) and id that is taken. And that no event of a history does.
 use Rattle.std.specs.Prelude.{ℕ, Bool, true, false, ◌&&◌, List, [], ◌∷◌, ◌≡◌, eqb, Ok, Err}
 use Rattle.record.specs.declared.Record.{Record}
-use Rattle.record.specs.Meaning.{Reading, flag_number_of}
+use Rattle.record.specs.Meaning.{Reading}
 use Rattle.record.specs.Meaning.{of_clear}
 use Rattle.verdict.specs.Meaning.{Verdict}
 use Rattle.verdict.specs.Meaning.{Refused, Taken, Passed, Dropped}
@@ -14,7 +14,7 @@ taken_in (Passed p) = false
 taken_in (Dropped d) = false
 
 abbrev pub clear_in : ℕ → ℕ → Record → Bool
-clear_in flag i = of_clear (λ r. eqb (flag_number_of r.flag) flag && eqb r.id i) false
+clear_in flag i = of_clear (λ r. eqb r.flag flag && eqb r.id i) false
 
 abbrev pub clear_by : ℕ → ℕ → Reading → Verdict → Bool
 clear_by flag i (Err why) v = false

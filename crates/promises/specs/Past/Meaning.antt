@@ -16,7 +16,7 @@ use Rattle.record.specs.declared.SchedulerRecord.{SchedulerRecord}
 use Rattle.record.specs.declared.StartRecord.{StartRecord}
 use Rattle.record.specs.declared.ArrivalRecord.{ArrivalRecord}
 use Rattle.record.specs.declared.ClearRecord.{ClearRecord}
-use Rattle.record.specs.Meaning.{Reading, flag_number_of}
+use Rattle.record.specs.Meaning.{Reading}
 use Rattle.record.specs.declared.Kind.{Kind}
 use Rattle.record.specs.Meaning.{kind_of, length_in, in_turn_in, of_entry, of_start, of_arrival, of_clear}
 use Rattle.verdict.specs.Meaning.{Verdict}
@@ -186,7 +186,7 @@ burst_in k i = of_it (λ r. r.cbs.0) 0 (k.scheduler i)
 
 -- the entry of a gate's list that a record of kind 4 says; state 0 is closed
 abbrev pub entry_of : GateEntryRecord → Entry
-entry_of r = record { opened = r.opened; ipv = r.ipv; interval = r.interval; maximum = r.octet_maximum }
+entry_of r = record { opened = not (eqb r.state 0); ipv = r.ipv; interval = r.interval; maximum = r.octet_maximum }
 
 -- ---- the tests on a record whose fields are in range
 
@@ -232,10 +232,10 @@ early_in k = of_arrival (λ a. ltb a.time (clock_in k)) false
 -- 10: "clear: that filter, gate or meter isn't set up". Flags: 1 filter oversize, 2 gate invalid-receive, 3 gate octets, 4 meter red
 abbrev pub clearable_in : Known → ClearRecord → Bool
 clearable_in k r =
-    cond (eqb (flag_number_of r.flag) 1) (is_there (k.filter r.id))
-    (cond (eqb (flag_number_of r.flag) 2) (is_there (k.gate r.id))
-    (cond (eqb (flag_number_of r.flag) 3) (is_there (k.gate r.id))
-    (cond (eqb (flag_number_of r.flag) 4) (is_there (k.meter r.id)) false)))
+    cond (eqb r.flag 1) (is_there (k.filter r.id))
+    (cond (eqb r.flag 2) (is_there (k.gate r.id))
+    (cond (eqb r.flag 3) (is_there (k.gate r.id))
+    (cond (eqb r.flag 4) (is_there (k.meter r.id)) false)))
 
 abbrev pub absent_in : Known → Record → Bool
 absent_in k = of_clear (λ r. not (clearable_in k r)) false

@@ -5,7 +5,7 @@ use Rattle.sizes.specs.Meaning.{filter_count, entry_count}
 use Rattle.record.specs.declared.Record.{Record}
 use Rattle.record.specs.declared.ClearRecord.{ClearRecord}
 use Rattle.record.specs.declared.Kind.{Kind}
-use Rattle.record.specs.Meaning.{kind_of, fields_of, values_at, fields_in_range, refusal_number_of, record_of, length_in, in_turn_in, of_entry, of_start, of_arrival, of_clear, flag_number_of}
+use Rattle.record.specs.Meaning.{kind_of, fields_of, values_at, fields_in_range, refusal_number_of, record_of, length_in, in_turn_in, of_entry, of_start, of_arrival, of_clear}
 use Rattle.bank.specs.Meaning.{component, port, gate_is_set, entries, meter_is_set, group, scheduler_is_set}
 use Rattle.filter.specs.Meaning.{Missing, ExceedsBurst, no_key}
 use Rattle.filter.specs.Meaning.{is_filter_of, counts_of, row_of, is_found}
@@ -80,10 +80,10 @@ early_test b = of_arrival (λ a. ltb a.time (component b.bank).clock) false
 -- 10: "clear: that filter, gate or meter isn't set up"
 abbrev pub clearable_of : Bridge → ClearRecord → Bool
 clearable_of b r =
-    cond (eqb (flag_number_of r.flag) 1) (counts_of b.bank (row_of b.table r.id))
-    (cond (eqb (flag_number_of r.flag) 2) (gate_is_set b.bank r.id)
-    (cond (eqb (flag_number_of r.flag) 3) (gate_is_set b.bank r.id)
-    (cond (eqb (flag_number_of r.flag) 4) (meter_is_set b.bank r.id) false)))
+    cond (eqb r.flag 1) (counts_of b.bank (row_of b.table r.id))
+    (cond (eqb r.flag 2) (gate_is_set b.bank r.id)
+    (cond (eqb r.flag 3) (gate_is_set b.bank r.id)
+    (cond (eqb r.flag 4) (meter_is_set b.bank r.id) false)))
 
 abbrev pub absent_test : Bridge → Record → Bool
 absent_test b = of_clear (λ r. not (clearable_of b r)) false

@@ -41,7 +41,7 @@ pub record InBounds (b : Bridge) : Type 0 where
 
 -- 4: the meter "first fills", then colours the frame. "If the red flag stands: red"
 abbrev pub colour_at : Bridge → ArrivalRecord → ℕ → Outcome
-colour_at b a i = (painted_of (filled_of (meter b.bank i) a.time) (grains a.msdu) a.drop_eligible).outcome
+colour_at b a i = (painted_of (filled_of (meter b.bank i) a.time) (grains a.msdu) (is_set a.drop_eligible)).outcome
 
 -- 5: the eligibility time that scheduler `i` computes, and the latest that is admitted, "arrival + residence"
 abbrev pub eligible_at : Bridge → ArrivalRecord → ℕ → ℕ
@@ -51,7 +51,7 @@ abbrev pub latest_at : Bridge → ArrivalRecord → ℕ → ℕ
 latest_at b a i = a.time + (group b.bank (scheduler_group b.bank i)).residence
 
 -- "A pass carries the internal priority .., its traffic class, drop mark, and eligibility time or none": the class is that of the table
-abbrev pub pass_at : Bridge → ℕ → Bool → Option ℕ → Pass
+abbrev pub pass_at : Bridge → ℕ → ℕ → Option ℕ → Pass
 pass_at b priority mark eligible = record { priority = priority; class = class_at priority (component b.bank).classes; drop_mark = mark; eligible = eligible }
 
 -- ---- how far the frame comes
@@ -74,17 +74,17 @@ module _ (b : Bridge) (a : ArrivalRecord) where
     pub opens : (reached_of b.bank b.lists a row.gate).outcome ≡ Open ipv
 
   -- 4: the drop mark with which it goes on: its own, unless it is yellow
-  pub data Marked (row : Filter) : Bool → Type 0 where
+  pub data Marked (row : Filter) : ℕ → Type 0 where
     unmetered : row.meter ≡ 255 → Marked row a.drop_eligible
     green : row.meter ≢ 255 → colour_at b a row.meter ≡ Green → Marked row a.drop_eligible
-    yellow : row.meter ≢ 255 → colour_at b a row.meter ≡ Yellow → Marked row true
+    yellow : row.meter ≢ 255 → colour_at b a row.meter ≡ Yellow → Marked row 1
 
-  pub record PastMeter (f : ℕ) (row : Filter) (ipv : ℕ) (mark : Bool) : Type 0 where
+  pub record PastMeter (f : ℕ) (row : Filter) (ipv mark : ℕ) : Type 0 where
     pub at_meter : AtMeter f row ipv
     pub marked : Marked row mark
 
   -- 5: a scheduler is named
-  pub record AtScheduler (f : ℕ) (row : Filter) (ipv : ℕ) (mark : Bool) : Type 0 where
+  pub record AtScheduler (f : ℕ) (row : Filter) (ipv mark : ℕ) : Type 0 where
     pub past_meter : PastMeter f row ipv mark
     pub named : row.scheduler ≢ 255
 
@@ -104,7 +104,7 @@ module _ (b : Bridge) (a : ArrivalRecord) where
     pub filter : ℕ
     pub row : Filter
     pub ipv : ℕ
-    pub mark : Bool
+    pub mark : ℕ
     pub at_scheduler : AtScheduler filter row ipv mark
     pub exceeds : latest_at b a row.scheduler < eligible_at b a row.scheduler
 
@@ -113,7 +113,7 @@ module _ (b : Bridge) (a : ArrivalRecord) where
     pub filter : ℕ
     pub row : Filter
     pub ipv : ℕ
-    pub mark : Bool
+    pub mark : ℕ
     pub at_scheduler : AtScheduler filter row ipv mark
     pub computed : at ≡ eligible_at b a row.scheduler
     pub in_time : at ≤ latest_at b a row.scheduler
@@ -136,8 +136,8 @@ module _ (b : Bridge) (a : ArrivalRecord) where
     drop_6 : ColouredAs YellowDropped → Given (Dropped drop.Yellow)
     drop_7 : ColouredAs Red → Given (Dropped drop.Red)
     -- no scheduler is named
-    unscheduled : (f : ℕ) (row : Filter) (ipv : ℕ) (mark : Bool) → PastMeter f row ipv mark → row.scheduler ≡ 255 → Given (Passed (pass_at b (internal_of ipv a.priority) mark None))
+    unscheduled : (f : ℕ) (row : Filter) (ipv mark : ℕ) → PastMeter f row ipv mark → row.scheduler ≡ 255 → Given (Passed (pass_at b (internal_of ipv a.priority) mark None))
     -- 5: "If it is at most arrival + residence", it is eligible then; "Residence exceeded: drop 8"
-    scheduled : (f : ℕ) (row : Filter) (ipv : ℕ) (mark : Bool) → AtScheduler f row ipv mark → eligible_at b a row.scheduler ≤ latest_at b a row.scheduler
+    scheduled : (f : ℕ) (row : Filter) (ipv mark : ℕ) → AtScheduler f row ipv mark → eligible_at b a row.scheduler ≤ latest_at b a row.scheduler
         → Given (Passed (pass_at b (internal_of ipv a.priority) mark (Some (eligible_at b a row.scheduler))))
     drop_8 : ResidenceExceeded → Given (Dropped drop.Residence)
