@@ -1,5 +1,5 @@
 -- The cases of the definitions in Setup, and what the loops of the code come to.
-use Rattle.std.specs.Prelude.{ℕ, zero, suc, ◌+◌, ◌-◌, ◌≤◌, ◌<◌, Bool, true, false, cond, ◌||◌, List, [], ◌∷◌, ◌≡◌, eqb, slice_set, refl, Result, Ok, Err}
+use Rattle.std.specs.Prelude.{ℕ, zero, suc, ◌+◌, ◌-◌, ◌≤◌, ◌<◌, Bool, true, false, ◌||◌, List, [], ◌∷◌, ◌≡◌, eqb, slice_set}
 use Rattle.std.proofs.Math.Bool.{or-false, or_assoc}
 use Rattle.std.specs.List.{list_any, range_with_len}
 use Rattle.std.proofs.Common.{sym, add-zero, zero-add, arith, ⊎_elim, ap, ◌∙◌, not-suc-le-zero, eq-or-lt_of_le, le_of_suc-le-suc, add-one}
@@ -8,11 +8,8 @@ use Rattle.sizes.specs.Meaning.{entry_count, entry_octets}
 use Rattle.logic.specs.Laws.{neither_left, neither_right, if_by}
 use Rattle.record.specs.declared.GateEntryRecord.{GateEntryRecord}
 use Rattle.record.specs.declared.ClearRecord.{ClearRecord}
-use Rattle.record.specs.declared.Flag.{Flag}
-use Rattle.record.specs.declared.Flag.TheVariants.{Oversize, InvalidReceive, Octets, Red}
 use Rattle.record.specs.declared.Refusal.{Refusal}
 use Rattle.record.specs.declared.Refusal.TheVariants.{NinthEntry, NotSetUp}
-use Rattle.record.specs.Meaning.{flag_said}
 use Rattle.bank.specs.Meaning.{Rows, store, entries, with_entries}
 use Rattle.filter.specs.declared.Filter.{Filter}
 use Rattle.verdict.specs.Meaning.{Refused, Taken, Told, told}
@@ -107,28 +104,6 @@ module _ (s : Rows) (r : ClearRecord) (row : Filter) where
   clear_none o = rw (ne_eqb r.flag 1 o.0.0.0.1, ne_eqb r.flag 2 o.0.0.1, ne_eqb r.flag 3 o.0.1, ne_eqb r.flag 4 o.1)
 
 -- what holds of each flag's clear, and where there is no such flag, holds of the clear
--- what a clear of the flag that a number says gives; of none, that nothing is set up
-abbrev pub cleared : Rows → ClearRecord → Filter → Result Flag Refusal → Told
-cleared s r row (Ok Oversize) = clear_oversize_of s r.id row
-cleared s r row (Ok InvalidReceive) = clear_invalid_receive_of s r.id
-cleared s r row (Ok Octets) = clear_octets_of s r.id
-cleared s r row (Ok Red) = clear_red_of s r.id
-cleared s r row (Err why) = told s (Refused NotSetUp)
-
-pub clear_said : (s : Rows) (r : ClearRecord) (row : Filter) → clear_of s r row ≡ cleared s r row (flag_said r.flag)
-unfolding clear_of
-clear_said s r row = by_number r.flag
-  where
-    by_number : (n : ℕ)
-        → cond (eqb n 1) (clear_oversize_of s r.id row) (cond (eqb n 2) (clear_invalid_receive_of s r.id) (cond (eqb n 3) (clear_octets_of s r.id) (cond (eqb n 4) (clear_red_of s r.id) (told s (Refused NotSetUp)))))
-        ≡ cleared s r row (flag_said n)
-    by_number zero = refl
-    by_number (suc zero) = refl
-    by_number (suc (suc zero)) = refl
-    by_number (suc (suc (suc zero))) = refl
-    by_number (suc (suc (suc (suc zero)))) = refl
-    by_number (suc (suc (suc (suc (suc n))))) = refl
-
 pub clear_by_lem : (P : Told → Type 0) (s : Rows) (r : ClearRecord) (row : Filter) → (r.flag ≡ 1 → P (clear_oversize_of s r.id row)) → (r.flag ≡ 2 → P (clear_invalid_receive_of s r.id)) → (r.flag ≡ 3 → P (clear_octets_of s r.id))
     → (r.flag ≡ 4 → P (clear_red_of s r.id)) → P (told s (Refused NotSetUp)) → P (clear_of s r row)
 unfolding clear_of
