@@ -3,7 +3,9 @@ use Rattle.std.specs.Prelude.{ℕ, ◌+◌, Bool, List, [], ◌∷◌, ◌≡◌
 use Rattle.std.proofs.Common.{sym, ap, ◌∙◌}
 use Rattle.record.specs.declared.Record.{Record}
 use Rattle.record.specs.declared.Record.TheVariants.{Port, Filter, Gate, GateEntry, Meter, Group, Scheduler, Start, Arrival, Clear}
-use Rattle.record.specs.Meaning.{Kind, port, filter, gate, gate_entry, meter, group, scheduler, start, arrival, clear, fields_of, values_at, record_of}
+use Rattle.record.specs.declared.Kind.{Kind}
+use Rattle.record.specs.declared.Kind.TheVariants.{Port as port, Filter as filter, Gate as gate, GateEntry as gate_entry, Meter as meter, Group as group, Scheduler as scheduler, Start as start, Arrival as arrival, Clear as clear}
+use Rattle.record.specs.Meaning.{fields_of, values_at, record_of}
 use Rattle.record.proofs.Laws.{Says}
 use Rattle.lines.specs.Meaning.{Column, number, number_or, next_or, line_row, kind_in, values_of, line_with, line_of}
 
