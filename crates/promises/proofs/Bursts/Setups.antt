@@ -83,7 +83,7 @@ module _ (g : ℕ) (s s' : Rows) (o : Near g s s') where
   unfolding set_gate_of
   gate_together r =
       refused_both (Together g) _ _ SetUpAlready s s' _ _ (ap (λ (u : List ℕ). is_set (word u 0)) (gate_row_lem r.id)) (stop _)
-      (record { verdicts = refl; banks = remade (gate_row r.id) (omega arith) (omega arith) (λ u. row_of_gate u r.opened r.ipv r.invalid_receive_block r.octets_block r.base_time) })
+      (record { verdicts = refl; banks = remade (gate_row r.id) (omega arith) (omega arith) (λ u. row_of_gate u (is_set r.state) r.ipv (is_set r.invalid_receive_block) (is_set r.octets_block) r.base_time) })
 
   group_set_both : (j : ℕ) → (group s j).set ≡ (group s' j).set
   group_set_both j = by_group (ℕ_discrete (group_row j) (groups_from + g))

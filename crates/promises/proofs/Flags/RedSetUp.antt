@@ -92,7 +92,7 @@ named_is_set s table q asks f row e n =
 
 meter_kept : (s : Rows) (x : MeterRecord) → RedSetUp s → RedSetUp (set_meter_of s x).bank
 unfolding set_meter_of
-meter_kept s x k = refused_by (λ t. RedSetUp t.bank) (meter_is_set s x.id) SetUpAlready s _ k (λ i h. set_up (fresh_meter_of x.cir x.cbs x.eir x.ebs x.coupling x.colour_aware x.drop_on_yellow x.red_block) i (ℕ_discrete (meter_row i) (meter_row x.id)) h)
+meter_kept s x k = refused_by (λ t. RedSetUp t.bank) (meter_is_set s x.id) SetUpAlready s _ k (λ i h. set_up (fresh_meter_of x.cir x.cbs x.eir x.ebs (is_set x.coupling) (is_set x.colour_aware) (is_set x.drop_on_yellow) (is_set x.red_block)) i (ℕ_discrete (meter_row i) (meter_row x.id)) h)
   where
     set_up : (m : Meter) (i : ℕ) → Dec (meter_row i ≡ meter_row x.id) → stands 3 (with_meter s x.id m) (meter_state_row i) → stands 0 (with_meter s x.id m) (meter_row i)
     set_up m i (yes e) h =

@@ -76,7 +76,7 @@ module _ (b : Bridge) (c : Call) (S : Rows → Type 0) (flag i : ℕ) (now : S b
     sorted r used e (arrival a) k = arrivals a _
     sorted r used e (clear x) k =
         let ids = read_ranges c (started_of b.bank) (kind.Clear x) used e in
-        cleared x (row_of b.table x.id) (omega (arith, ids.1)) (λ n. omega (arith, ids.2 n)) (ap (λ (v : Verdict). clear_in flag i (kind.Clear x) && taken_in v) (sym (answered_verdict used (clear_of b.bank x (row_of b.table x.id)).verdict)) ∙ k)
+        cleared x (row_of b.table x.id) (omega (arith, ids.3)) (λ n. omega (arith, ids.4 n)) (ap (λ (v : Verdict). clear_in flag i (kind.Clear x) && taken_in v) (sym (answered_verdict used (clear_of b.bank x (row_of b.table x.id)).verdict)) ∙ k)
 
     called : (o : Took) → Called b c o → clear_by flag i (reading_of b c) o.answer.verdict ≡ false → S o.after.bank
     called o (unread why) k = now

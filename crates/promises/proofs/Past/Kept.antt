@@ -103,7 +103,7 @@ module _ (cs : List Call) where
     kept_gate = gate_set known after.bank run_agrees_fresh.bank i h
 
     pub kept_gate_settings : (r : GateRecord) → known.gate i ≡ some r
-        → gate after.bank i ≡ gate_set_up (gate after.bank i) r.opened r.ipv r.invalid_receive_block r.octets_block r.base_time
+        → gate after.bank i ≡ gate_set_up (gate after.bank i) (is_set r.state) r.ipv (is_set r.invalid_receive_block) (is_set r.octets_block) r.base_time
     kept_gate_settings = gate_is known after.bank run_agrees_fresh.bank i h
 
     -- a gate's entries are those of its taken records, in order

@@ -14,18 +14,18 @@ use Rattle.promises.proofs.Past.Agrees.{meter_said, GateSaid, MeterSaid, Schedul
 
 module _ (k : Known) (s : Rows) (all : BankSaid k s) (i : ℕ) where
   pub gate_is : i < gate_count → (r : GateRecord) → k.gate i ≡ some r
-      → gate s i ≡ gate_set_up (gate s i) r.opened r.ipv r.invalid_receive_block r.octets_block r.base_time
+      → gate s i ≡ gate_set_up (gate s i) (is_set r.state) r.ipv (is_set r.invalid_receive_block) (is_set r.octets_block) r.base_time
   gate_is h r e =
       let a = subst (λ (o : Option GateRecord). GateSaid o (k.entries i) (s (gate_row i))) e ((all (gate_row i)).gates i h refl) in
       let g = gate s i in
       let octet : r.ipv % 2 ^ 8 ≡ r.ipv = omega (arith, a.ranged.ranges) in
       ap (λ (row : List ℕ). gate_in row (s (gate_state_row i))) a.words
-      ∙ (λ j. gate_set_up g (is_set_back r.opened j) (octet j) (is_set_back r.invalid_receive_block j) (is_set_back r.octets_block j) r.base_time)
+      ∙ (λ j. gate_set_up g (is_set_back (is_set r.state) j) (octet j) (is_set_back (is_set r.invalid_receive_block) j) (is_set_back (is_set r.octets_block) j) r.base_time)
 
   pub meter_is : i < meter_count → (r : MeterRecord) → k.meter i ≡ some r → meter s i ≡ meter_holding (meter_said r) (meter s i).committed (meter s i).excess (meter s i).last (meter s i).red_flag
   meter_is h r e =
       let a = subst (λ (o : Option MeterRecord). MeterSaid o (s (meter_row i))) e ((all (meter_row i)).meters i h refl) in
-      let block = subst (λ (o : Option MeterRecord). is_set (word (s (meter_state_row i)) 4) ≡ of_it (λ x. x.red_block) false o) e ((all (meter_state_row i)).meter_states i h refl) in
+      let block = subst (λ (o : Option MeterRecord). is_set (word (s (meter_state_row i)) 4) ≡ of_it (λ x. is_set x.red_block) false o) e ((all (meter_state_row i)).meter_states i h refl) in
       let m = meter s i in
       let cbs : r.cbs.0 % 2 ^ 32 ≡ r.cbs.0 = omega (arith, a.ranged.ranges) in
       let ebs : r.ebs.0 % 2 ^ 32 ≡ r.ebs.0 = omega (arith, a.ranged.ranges) in
@@ -35,9 +35,9 @@ module _ (k : Known) (s : Rows) (all : BankSaid k s) (i : ℕ) where
         cbs = record { 0 = cbs j };
         eir = r.eir;
         ebs = record { 0 = ebs j };
-        coupling = is_set_back r.coupling j;
-        colour_aware = is_set_back r.colour_aware j;
-        drop_on_yellow = is_set_back r.drop_on_yellow j;
+        coupling = is_set_back (is_set r.coupling) j;
+        colour_aware = is_set_back (is_set r.colour_aware) j;
+        drop_on_yellow = is_set_back (is_set r.drop_on_yellow) j;
         red_block = block j;
         red_flag = m.red_flag;
         committed = m.committed;

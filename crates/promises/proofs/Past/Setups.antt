@@ -64,7 +64,7 @@ module _ (f f' : ℕ → ℕ) (p : ℕ) (others : (i : ℕ) → i ≢ p → f' i
 -- ---- a gate's row when its record comes, and when an entry comes
 
 gate_renewed : (x : GateRecord) (o : Option GateRecord) (n : ℕ)
-    → row_of_gate (gate_row_said o n) x.opened x.ipv x.invalid_receive_block x.octets_block x.base_time ≡ gate_row_said (some x) n
+    → row_of_gate (gate_row_said o n) (is_set x.state) x.ipv (is_set x.invalid_receive_block) (is_set x.octets_block) x.base_time ≡ gate_row_said (some x) n
 gate_renewed x none n = refl
 gate_renewed x (some r) n = refl
 
@@ -131,14 +131,14 @@ module _ (k : Known) (s : Rows) (all : BankSaid k s) where
       schedulers = a.schedulers;
     }
 
-    gate_own : RowSaid gate_known (gate_row x.id) (row_of_gate (s (gate_row x.id)) x.opened x.ipv x.invalid_receive_block x.octets_block x.base_time)
+    gate_own : RowSaid gate_known (gate_row x.id) (row_of_gate (s (gate_row x.id)) (is_set x.state) x.ipv (is_set x.invalid_receive_block) (is_set x.octets_block) x.base_time)
     gate_own = of_gate_lem x.id (λ i h e. let a = (all (gate_row x.id)).gates i h e in rw (own_record x (k.gate i) x.id i (omega (arith, ranged.ranges))) (record {
-      words = ap (λ (row : List ℕ). row_of_gate row x.opened x.ipv x.invalid_receive_block x.octets_block x.base_time) a.words ∙ gate_renewed x (k.gate i) (length (k.entries i));
+      words = ap (λ (row : List ℕ). row_of_gate row (is_set x.state) x.ipv (is_set x.invalid_receive_block) (is_set x.octets_block) x.base_time) a.words ∙ gate_renewed x (k.gate i) (length (k.entries i));
       room = a.room;
       ranged = ranged;
     }))
 
-    pub gate_said : BankSaid gate_known (with_gate s x.id x.opened x.ipv x.invalid_receive_block x.octets_block x.base_time)
+    pub gate_said : BankSaid gate_known (with_gate s x.id (is_set x.state) x.ipv (is_set x.invalid_receive_block) (is_set x.octets_block) x.base_time)
     gate_said = stored (RowSaid gate_known) s (gate_row x.id) _ (λ q n. gate_others q (s q) n (all q)) gate_own
 
   -- ---- kind 4, gate entry
