@@ -28,21 +28,22 @@ module _ (buf : List ℕ) (from end at to : ℕ) (a : at ≡ min from to) (t : t
   unfolding kept_of
   copied after e = rw (e, zero-add, ← copied_part, copied_length)
 
-module _ (before after : List ℕ) (kept at : ℕ) (e : at ≡ min kept (length before)) where
-  as_far : take at before ≡ take kept before
-  as_far = ap (λ (k : ℕ). take k before) e ∙ take_min kept before
+-- as far as the list goes
+take_within : (n : ℕ) (xs : List ℕ) (k : ℕ) → k ≡ min n (length xs) → take k xs ≡ take n xs
+take_within n xs k e = ap (λ (j : ℕ). take j xs) e ∙ take_min n xs
 
+module _ (before after : List ℕ) (kept at : ℕ) (e : at ≡ min kept (length before)) where
   -- no octet was asked for
   pub fills_none : after ≡ before → Fills before kept after at
   fills_none same = record {
     read = [];
-    there = ap (take at) same ∙ as_far ∙ sym (append-nil (take kept before));
+    there = ap (take at) same ∙ take_within kept before at e ∙ sym (append-nil (take kept before));
     within = omega (arith, e, ap length same);
   }
 
   -- the octets before `at` are as they were
   pub fills_some : (n : ℕ) → take at after ≡ take at before → take (at + n) after ≡ take kept before ++ take n (drop at after)
-  fills_some n front = take-add at n after ∙ ap (λ (xs : List ℕ). xs ++ take n (drop at after)) (front ∙ as_far)
+  fills_some n front = take-add at n after ∙ ap (λ (xs : List ℕ). xs ++ take n (drop at after)) (front ∙ take_within kept before at e)
 
   -- what a read has put behind them
   pub fills_read : (n end : ℕ) (new post : List ℕ) → end ≡ at + n → n ≤ length new → after ≡ take at before ++ (new ++ post) → Fills before kept after end

@@ -1,5 +1,5 @@
 -- What stands in the buffer of a piece after a read, what is kept of it at the front, and what is said of a read or a write that fails.
-use Rattle.std.specs.Prelude.{ℕ, ◌≤◌, ◌≡◌, List, ◌++◌, length, take, drop, Result, Ok, Err}
+use Rattle.std.specs.Prelude.{ℕ, ◌≤◌, ◌≡◌, List, [], ◌++◌, length, take, drop, Option, Some, None, Result, Ok, Err}
 use Rattle.std.proofs.Math.Seq.{slice}
 use Rattle.text.specs.Meaning.{ascii}
 use Rattle.pieces.specs.declared.Failure.{Failure}
@@ -31,6 +31,7 @@ kept_of buf from end = front_of buf (slice from end buf)
 -- ---- a read or a write that fails
 
 -- the line that says so, after the program's name
-unfoldable pub complaint_of : List ℕ → Failure → List ℕ
-complaint_of program Input = program ++ ascii ": standard input cannot be read\n"
-complaint_of program Output = program ++ ascii ": standard output cannot be written\n"
+unfoldable pub complaint_of : List ℕ → Option Failure → List ℕ
+complaint_of program None = []
+complaint_of program (Some Input) = program ++ ascii ": standard input cannot be read\n"
+complaint_of program (Some Output) = program ++ ascii ": standard output cannot be written\n"

@@ -2,7 +2,8 @@
 // A record that the end of a piece cuts waits at the front of the buffer for its rest.
 #![tactic(auto)]
 
-ghost use Rattle.std.specs.Prelude.{◌≡◌, IfErr};
+ghost use Rattle.std.specs.Prelude.{◌≡◌, IfErr, OnOk};
+ghost use Rattle.std.specs.Io.KnownBytes.{Appends};
 ghost use Rattle.text.specs.Meaning.{written};
 ghost use Rattle.pieces.specs.Meaning.{Kept, kept_of, Filled, complaint_of};
 
@@ -26,7 +27,8 @@ pub fn fill<R: Read>(
     kept: usize,
     starved: bool,
 ) -> Result<usize, Failure>
-    ensures { Filled buf.old kept buf.new result }
+    ensures filled { Filled buf.old kept buf.new result }
+    ensures unread { IfErr result (λ failure. failure ≡ Failure.Input) }
 {
     let at = kept.min(buf.len());
     if !starved {
@@ -52,14 +54,26 @@ pub fn keep(buf: &mut [u8], from: usize, end: usize) -> usize
 
 // Writes all of `octets`. It stops at the first write that fails or takes nothing.
 pub fn write<W: Write>(output: &mut W, octets: &[u8]) -> Result<(), Failure>
-    ensures { IfErr result (λ failure. failure ≡ Failure.Output) }
+    ensures all { OnOk result (Appends (W.contents output.old) (W.contents output.new) octets.now) }
+    ensures unwritten { IfErr result (λ failure. failure ≡ Failure.Output) }
 {
-    output.write_all(octets).map_err(|_| Failure::Output)
+    let mut rest = octets;
+    while !rest.is_empty() {
+        match output.write(rest) {
+            Ok(n) if 0 < n => rest = &rest[n..],
+            _ => return Err(Failure::Output),
+        }
+    }
+    Ok(())
 }
 
-// Says what has failed.
+// Says what has failed; nothing where nothing has.
 // Ruled out, in what is put on the page: the other stream named; the program not named.
-pub fn complain<W: Write>(errors: &mut W, program: &[u8], failure: Failure) -> Result<(), Failure>
+pub fn complain<W: Write>(
+    errors: &mut W,
+    program: &[u8],
+    failure: Option<Failure>,
+) -> Result<(), Failure>
     ensures { IfErr result (λ failure. failure ≡ Failure.Output) }
 {
     let mut page = Page::<4096>::new();
@@ -68,12 +82,14 @@ pub fn complain<W: Write>(errors: &mut W, program: &[u8], failure: Failure) -> R
 }
 
 #[tactic(auto, using(text::proofs::Laws::puts), unfolding(crate::specs::Meaning::complaint_of))]
-fn complaint<const N: usize>(page: &mut Page<N>, program: &[u8], failure: Failure)
+fn complaint<const N: usize>(page: &mut Page<N>, program: &[u8], failure: Option<Failure>)
     ensures { page.new ≡ written page.old (complaint_of program.now failure) }
 {
-    page.put_octets(program);
-    match failure {
-        Failure::Input => page.put_octets(b": standard input cannot be read\n"),
-        Failure::Output => page.put_octets(b": standard output cannot be written\n"),
+    if let Some(failure) = failure {
+        page.put_octets(program);
+        match failure {
+            Failure::Input => page.put_octets(b": standard input cannot be read\n"),
+            Failure::Output => page.put_octets(b": standard output cannot be written\n"),
+        }
     }
 }

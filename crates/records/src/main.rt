@@ -2,8 +2,8 @@
 // The input is read in pieces: a record that is cut at the end of a piece waits there for its rest.
 #![tactic(auto)]
 
-ghost use Rattle.std.specs.Prelude.{◌+◌, ◌≤◌, length};
-ghost use Rattle.lines.specs.Room.{record_room};
+ghost use Rattle.std.specs.Prelude.{◌≡◌, ◌+◌, ◌<◌, ◌≤◌, length, IfOk};
+ghost use Rattle.records.specs.Room.{half, HasRoom};
 
 use pieces::Failure;
 use record::{Record, Refusal};
@@ -33,8 +33,10 @@ struct Printer {
     // The octets of the records printed, and whether a start was among them.
     offset: u64,
     started: bool,
-    // A line always finds its room.
-    ghost room: { page.filled + record_room ≤ length page.octets },
+    // A line always finds its room, since less than half of the page waits.
+    ghost room: { HasRoom page.octets page.filled },
+    ghost waiting: { page.filled < half },
+    ghost halves: { length page.octets ≡ half + half },
 }
 
 impl Printer {
@@ -66,7 +68,10 @@ impl Printer {
         output: &mut W,
         piece: &[u8],
         last: bool,
-    ) -> Result<usize, Stop> {
+    ) -> Result<usize, Stop>
+        ensures at_stays_in_bounds { IfOk result (λ at. at ≤ length piece.now) }
+        ensures filled_stays_below_half { self.new.page.filled < half }
+    {
         let mut at = 0;
         // Kept: a step is as long as the record that was read; a `for` over the octets would have a turn for each and a test in it.
         while at < piece.len() {
@@ -85,7 +90,9 @@ impl Printer {
     }
 
     // One line. The page is written once half of it is filled.
-    fn print<W: Write>(&mut self, output: &mut W, r: Record) -> Result<(), Failure> {
+    fn print<W: Write>(&mut self, output: &mut W, r: Record) -> Result<(), Failure>
+        ensures filled_below_half { self.new.page.filled < half }
+    {
         lines::put_line(&mut self.page, r);
         if self.page.room() > HALF {
             return Ok(());
@@ -110,7 +117,7 @@ fn print_all<R: Read, W: Write>(input: &mut R, output: &mut W) -> Result<(), Fai
         started: _,
     } = printer;
     if let Err(Stop::Refused(why)) = end {
-        page.put_refused(why, offset);
+        page.put_refused(u8::from(why), offset);
     }
     pieces::write(output, page.text())?;
     match end {
@@ -120,7 +127,6 @@ fn print_all<R: Read, W: Write>(input: &mut R, output: &mut W) -> Result<(), Fai
 }
 
 fn main(rt: HostRuntime) {
-    if let Err(failure) = print_all(&mut rt.stdin(), &mut rt.stdout()) {
-        let _ = pieces::complain(&mut rt.stderr(), b"records", failure);
-    }
+    let end = print_all(&mut rt.stdin(), &mut rt.stdout());
+    let _ = pieces::complain(&mut rt.stderr(), b"records", end.err());
 }

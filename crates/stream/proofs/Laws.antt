@@ -12,7 +12,7 @@ use Rattle.filter.specs.declared.Filter.{Filter}
 use Rattle.filter.specs.Meaning.{no_row}
 use Rattle.verdict.specs.Meaning.{Refused}
 use Rattle.stage.specs.Meaning.{Bridge, bridge, take_of}
-use Rattle.text.specs.Meaning.{Page}
+use Rattle.text.specs.Meaning.{Page, page}
 use Rattle.run.specs.declared.Progress.{Progress}
 use Rattle.run.specs.Meaning.{fresh_progress_of, again_of, ran, piece_run_of}
 use Rattle.run.specs.Input.Meaning.{Front, begins}
@@ -26,8 +26,8 @@ use Rattle.promises.proofs.Pieces.Runs.{again_going, run_is_front, counted_on}
 use Rattle.promises.proofs.Pieces.UsedUp.{front_length, no_octet_left}
 use Rattle.stream.specs.declared.Stream.{Stream}
 use Rattle.stream.specs.declared.Drained.{Drained}
-use Rattle.stream.specs.Meaning.{empty_table, ended_of, Drains}
-use Rattle.stream.specs.Stands.{Stands, ended_by}
+use Rattle.stream.specs.Meaning.{empty_table, ended_of, failure_of, Drains}
+use Rattle.stream.specs.Stands.{Stands, Turned, with_run, ended_by}
 
 -- the tests of the code: octets were asked for and none came; and what is written and no refusal but a body cut short lets a stream go on
 pub asked_empty : (refusal : Option Refusal) (kept : ℕ) (z : Bool) → ((is_some refusal || kept == 0) && z) ≡ true → refusal ≡ None → kept ≡ 0
@@ -49,9 +49,11 @@ pub none_by : {T : Type 0} (o : Option T) → is_some o ≡ false → o ≡ None
 none_by None e = refl
 none_by (Some x) e = cc
 
-pub ok_by : {E : Type 0} (r : Result (Unit {0}) E) → result_err r ≡ None → r ≡ Ok tt
-ok_by (Ok x) e = refl
-ok_by (Err x) e = cc
+-- nothing has failed where it has come to its end
+pub well : (r : Result Bool Failure) → failure_of r ≡ None → r ≡ Ok false
+well (Ok true) e = absurd cc
+well (Ok false) e = refl
+well (Err failure) e = absurd cc
 
 -- before the first piece
 module _ (bank : Rows) (lists buffer : List ℕ) (w : Page) where
@@ -65,6 +67,33 @@ module _ (bank : Rows) (lists buffer : List ℕ) (w : Page) where
   stands_first quiet row p e f =
       subst (λ (r : Filter). Stands (bridge empty_table bank lists) (begun r p) bank lists) (sym e)
       (subst (λ (q : Progress). Stands (bridge empty_table bank lists) (begun no_row q) bank lists) (sym f) (first quiet))
+
+-- a run over the piece, and what is kept of it
+module _ (after : List ℕ) (end at : ℕ) (buffer : List ℕ) (left : ℕ) (k : ◌≡◌ {A = Kept} (record { buffer = buffer; waiting = left }) (kept_of after at end)) where
+  abbrev rest_of : List ℕ
+  rest_of = drop at (take end after)
+
+  left_is : left ≡ length rest_of
+  unfolding kept_of
+  left_is = ap (λ (x : Kept). x.waiting) k
+
+  buffer_is : buffer ≡ rest_of ++ drop (length rest_of) after
+  unfolding kept_of
+  buffer_is = ap (λ (x : Kept). x.buffer) k
+
+  waits : rest_of ≡ take left buffer
+  waits = sym (ap (λ (n : ℕ). take n buffer) left_is ∙ ap (take (length rest_of)) buffer_is ∙ take-append_seam rest_of (drop (length rest_of) after))
+
+-- a turn that runs
+pub turns_on : (s : Stream) (bank : Rows) (lists after : List ℕ) (end : ℕ) → Fills s.buffer s.kept after end → end < 2 ^ 64
+    → (w : Page) (octets : List ℕ) → w ≡ page octets 0 → (table : List Filter) (bank' : Rows) (lists' : List ℕ) (w' : Page) (p : Progress)
+    → ran table bank' lists' w' p ≡ piece_run_of (length (take end after)) (take end after) (bridge s.table bank lists) w (again_of s.progress)
+    → (buffer : List ℕ) (left : ℕ) → ◌≡◌ {A = Kept} (record { buffer = buffer; waiting = left }) (kept_of after p.at end)
+    → (taken : ℕ) → Turned s bank lists (record { table = table; buffer = buffer; page = w'; kept = left; octets = taken; progress = p }) bank' lists'
+turns_on s bank lists after end f small w octets cleared table bank' lists' w' p e buffer left k taken =
+    with_run octets (take end after) f.read f.there (omega (arith, small, length-take end after))
+    (e ∙ ap (λ (v : Page). piece_run_of (length (take end after)) (take end after) (bridge s.table bank lists) v (again_of s.progress)) cleared)
+    (sym (waits after end p.at buffer left k))
 
 module _ (b : Bridge) (s : Stream) (bank : Rows) (lists after : List ℕ) (st : Stands b s bank lists) where
   -- nothing more is taken
@@ -100,33 +129,23 @@ module _ (b : Bridge) (s : Stream) (bank : Rows) (lists after : List ℕ) (st : 
           subst (RunIs piece (bridge s.table bank lists) w (again_of s.progress)) (sym e)
           (run_is_front piece (omega (arith, small, length-take end after)) (bridge s.table bank lists) w (again_of s.progress) (again_going piece s.progress (omega (arith, st.records)) (omega (arith, st.arrivals))))
 
-      left_is : left ≡ length rest
-      unfolding kept_of
-      left_is = ap (λ (x : Kept). x.waiting) k
-
-      buffer_is : buffer ≡ rest ++ drop (length rest) after
-      unfolding kept_of
-      buffer_is = ap (λ (x : Kept). x.buffer) k
-
-      waits : rest ≡ take left buffer
-      waits = sym (ap (λ (n : ℕ). take n buffer) left_is ∙ ap (take (length rest)) buffer_is ∙ take-append_seam rest (drop (length rest) after))
-
       pub stands_on : (octets : ℕ) → octets ≡ (s.octets + (end - left)) % 2 ^ 64 → Stands b (record { table = table; buffer = buffer; page = w'; kept = left; octets = octets; progress = p }) bank' lists'
       stands_on octets o =
           let counts = counted_on st.answers is.answers in
+          let left_length = left_is after end p.at buffer left k in
           record {
             input = st.input ++ f.read;
             answers = st.answers ++ is.answers;
             front =
                 front_follows (front_extends f.read st.front)
                 (subst (λ (xs : List ℕ). Front (bridge s.table bank lists) xs is.answers (bridge table bank' lists') (take left buffer)) f.there
-                (subst (λ (xs : List ℕ). Front (bridge s.table bank lists) piece is.answers (bridge table bank' lists') xs) waits is.front));
-            within = omega (arith, left_is, ap length buffer_is, length-append rest (drop (length rest) after));
+                (subst (λ (xs : List ℕ). Front (bridge s.table bank lists) piece is.answers (bridge table bank' lists') xs) (waits after end p.at buffer left k) is.front));
+            within = omega (arith, left_length, ap length (buffer_is after end p.at buffer left k), length-append rest (drop (length rest) after));
             full = st.full;
             records = omega (arith, is.records, st.records, counts.0);
             arrivals = omega (arith, is.arrivals, st.arrivals, counts.1.0);
-            octets = omega (arith, o, st.octets, counts.1.1, left_is, length-drop p.at piece, length-take end after, f.within, is.at, is.within);
-            stops = subst (λ (xs : List ℕ). Stops (bridge table bank' lists') xs p) waits is.stops;
+            octets = omega (arith, o, st.octets, counts.1.1, left_length, length-drop p.at piece, length-take end after, f.within, is.at, is.within);
+            stops = subst (λ (xs : List ℕ). Stops (bridge table bank' lists') xs p) (waits after end p.at buffer left k) is.stops;
           }
 
 -- at the end

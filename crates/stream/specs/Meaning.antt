@@ -1,5 +1,5 @@
 -- What a stream of records from standard input comes to, and its last line.
-use Rattle.std.specs.Prelude.{◌≡◌, ℕ, ◌%◌, ◌^◌, cond, Option, Some, None, List, [], length, ◌==◌}
+use Rattle.std.specs.Prelude.{◌≡◌, ℕ, ◌%◌, ◌^◌, Bool, true, false, cond, Option, Some, None, Result, Ok, Err, List, [], length, ◌==◌}
 use Rattle.sizes.specs.Meaning.{filter_count}
 use Rattle.record.specs.declared.Refusal.{Refusal}
 use Rattle.record.specs.declared.Refusal.TheVariants.{CutShort}
@@ -12,7 +12,7 @@ use Rattle.stage.specs.Meaning.{bridge}
 use Rattle.text.specs.Meaning.{end_line_of, refused_line_of}
 use Rattle.run.specs.Input.Meaning.{Front, Input, used_in}
 use Rattle.pieces.specs.declared.Failure.{Failure}
-use Rattle.pieces.specs.declared.Failure.TheVariants.{Output}
+use Rattle.pieces.specs.declared.Failure.TheVariants.{Input as InputFailure, Output}
 use Rattle.promises.specs.Meaning.{repeated}
 use Rattle.stream.specs.declared.Drained.{Drained}
 
@@ -24,6 +24,12 @@ empty_table = repeated no_row filter_count
 abbrev pub ended_of : Refusal → ℕ → Option Refusal
 ended_of CutShort left = cond (left == 0) None (Some CutShort)
 ended_of why left = Some why
+
+-- a stream that goes on after all its turns is given up as one that cannot be read
+abbrev pub failure_of : Result Bool Failure → Option Failure
+failure_of (Ok true) = Some InputFailure
+failure_of (Ok false) = None
+failure_of (Err failure) = Some failure
 
 -- for some octets that were read, the stream has taken records at their front, from an empty table and the bank and lists as they were; and unless something has
 -- failed, it has come to the end of that input
@@ -48,9 +54,12 @@ abbrev pub end_by : Option Refusal → Drained → List ℕ
 end_by None d = end_line_of d.records
 end_by (Some why) d = refused_line_of (refusal_number_of why) d.octets
 
+abbrev pub end_of : Drained → List ℕ
+end_of d = end_by d.refusal d
+
 -- no line where something has failed
 abbrev pub line_by : Option Failure → Drained → List ℕ
-line_by None d = end_by d.refusal d
+line_by None d = end_of d
 line_by (Some failure) d = []
 
 unfoldable pub last_line_of : Drained → List ℕ

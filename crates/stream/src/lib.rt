@@ -2,12 +2,13 @@
 // A record that the end of a piece cuts waits at the front of the buffer for its rest.
 #![tactic(auto)]
 
-ghost use Rattle.std.specs.Prelude.{◌≡◌, false};
+ghost use Rattle.std.specs.Prelude.{◌≡◌, List, ℕ, false, IfErr, OnOk};
+ghost use Rattle.std.specs.Io.KnownBytes.{Appends};
 ghost use Rattle.bank.specs.Meaning.{rows_of};
 ghost use Rattle.stage.specs.Meaning.{Bridge};
 ghost use Rattle.text.specs.Meaning.{written};
-ghost use Rattle.stream.specs.Meaning.{Drains, Reported, last_line_of};
-ghost use Rattle.stream.specs.Stands.{Stands, ended_by};
+ghost use Rattle.stream.specs.Meaning.{Drains, Reported, failure_of, last_line_of};
+ghost use Rattle.stream.specs.Stands.{Stands, Turned, Turns, ended_by, text_of};
 
 use bank::{Bank, Lists};
 use filter::Filter;
@@ -50,7 +51,7 @@ pub fn drain<R: Read, W: Write>(
     };
     let end = s.pieces(input, output, bank, lists);
     Drained {
-        failure: end.err(),
+        failure: last_failure(end),
         refusal: ended(s.progress.refusal, s.kept),
         records: s.progress.records,
         octets: s.octets,
@@ -82,9 +83,7 @@ pub fn close<W: Write, E: Write>(output: &mut W, errors: &mut E, program: &[u8],
     let mut page = Page::<4096>::new();
     last_line(&mut page, d);
     let end = pieces::write(output, page.text());
-    if let Some(failure) = d.failure.or(end.err()) {
-        let _ = pieces::complain(errors, program, failure);
-    }
+    let _ = pieces::complain(errors, program, d.failure.or(end.err()));
 }
 
 // There is none where something has failed.
@@ -95,7 +94,7 @@ fn last_line<const N: usize>(page: &mut Page<N>, d: Drained)
     match (d.failure, d.refusal) {
         (Some(_), _) => {}
         (None, None) => page.put_end(d.records),
-        (None, Some(why)) => page.put_refused(why, d.octets),
+        (None, Some(why)) => page.put_refused(u8::from(why), d.octets),
     }
 }
 
@@ -106,6 +105,17 @@ fn ended(refusal: Option<Refusal>, kept: usize) -> Option<Refusal>
     match refusal {
         Some(Refusal::CutShort) if kept == 0 => None,
         _ => refusal,
+    }
+}
+
+// A stream that goes on after all its turns is given up as one that cannot be read.
+fn last_failure(end: Result<bool, Failure>) -> Option<Failure>
+    ensures { result ≡ failure_of end }
+{
+    match end {
+        Ok(false) => None,
+        Ok(true) => Some(Failure::Input),
+        Err(failure) => Some(failure),
     }
 }
 
@@ -123,29 +133,46 @@ struct Stream {
 }
 
 impl Stream {
-    // Piece by piece, the lines written as the pieces are done. A stream that goes on after all its turns is given up as one that cannot be read.
+    // Turn by turn. Answers whether the stream goes on even so.
     fn pieces<R: Read, W: Write>(
         &mut self,
         input: &mut R,
         output: &mut W,
         bank: &mut Bank,
         lists: &mut Lists,
-    ) -> Result<(), Failure>
+    ) -> Result<bool, Failure>
         ensures stands { (b : Bridge) → Stands b self.old (rows_of bank.old) lists.old → Stands b self.new (rows_of bank.new) lists.new }
-        ensures over { result ≡ Ok tt → self.new.progress.refusal ≡ None → self.new.kept ≡ 0 }
+        ensures over { result ≡ Ok false → self.new.progress.refusal ≡ None → self.new.kept ≡ 0 }
+        ensures told { OnOk result ((text : List ℕ) × (Turns self.old (rows_of bank.old) lists.old self.new (rows_of bank.new) lists.new text × Appends (W.contents output.old) (W.contents output.new) text)) }
     {
         for _ in 0..u64::MAX {
-            let more = self.piece(input, bank, lists)?;
-            pieces::write(output, self.page.text())?;
-            if !more {
-                return Ok(());
+            if !self.turn(input, output, bank, lists)? {
+                return Ok(false);
             }
         }
-        Err(Failure::Input)
+        Ok(true)
     }
 
-    // One piece: read where a record is cut or no octet is left, run, keep what is not whole. Answers whether the stream goes on: it has come
-    // to its end where a refusal has stopped it or no octet is left.
+    // One piece, and its lines written.
+    fn turn<R: Read, W: Write>(
+        &mut self,
+        input: &mut R,
+        output: &mut W,
+        bank: &mut Bank,
+        lists: &mut Lists,
+    ) -> Result<bool, Failure>
+        ensures stands { (b : Bridge) → Stands b self.old (rows_of bank.old) lists.old → Stands b self.new (rows_of bank.new) lists.new }
+        ensures over { result ≡ Ok false → self.new.progress.refusal ≡ None → self.new.kept ≡ 0 }
+        ensures turned { OnOk result (Turned self.old (rows_of bank.old) lists.old self.new (rows_of bank.new) lists.new) }
+        ensures told { OnOk result (Appends (W.contents output.old) (W.contents output.new) (text_of self.new.page)) }
+    {
+        let more = self.piece(input, bank, lists)?;
+        pieces::write(output, self.page.text())?;
+        Ok(more)
+    }
+
+    // One piece: read where a record is cut or no octet is left, run from the front of an empty page, keep what is not whole. Answers whether
+    // the stream goes on: it has come to its end where a refusal has stopped it or no octet is left.
     fn piece<R: Read>(
         &mut self,
         input: &mut R,
@@ -154,6 +181,8 @@ impl Stream {
     ) -> Result<bool, Failure>
         ensures stands { (b : Bridge) → Stands b self.old (rows_of bank.old) lists.old → Stands b self.new (rows_of bank.new) lists.new }
         ensures over { result ≡ Ok false → self.new.progress.refusal ≡ None → self.new.kept ≡ 0 }
+        ensures turned { OnOk result (Turned self.old (rows_of bank.old) lists.old self.new (rows_of bank.new) lists.new) }
+        ensures unread { IfErr result (λ failure. failure ≡ Failure.Input) }
     {
         self.page.clear();
         let starved = self.progress.refusal.is_some() || self.kept == 0;

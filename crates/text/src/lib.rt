@@ -4,13 +4,11 @@
 
 ghost use Rattle.std.specs.Prelude.{◌≡◌, ◌-◌, length, take, replicate};
 ghost use Rattle.bank.specs.Meaning.{rows_of};
-ghost use Rattle.record.specs.Meaning.{refusal_number_of};
 ghost use Rattle.text.specs.Meaning.{page, put_of, written, digits_of, pass_line_of, drop_line_of, end_line_of, refused_line_of, item_of, filter_items_of, gate_items_of, meter_item_of, port_item_of, report_of, time_of};
 
 use bank::{Bank, Counters, Port};
 use gate::Gate;
 use meter::Meter;
-use record::Refusal;
 use std::marker::Model;
 use verdict::{Drop, Pass};
 
@@ -166,11 +164,11 @@ impl<const N: usize> Page<N> {
 
     // The last line at a refusal.
     // Ruled out: number and offset changed over; the word of another line.
-    pub fn put_refused(&mut self, refusal: Refusal, offset: u64)
-        ensures { self.new ≡ written self.old (refused_line_of (refusal_number_of refusal) offset) }
+    pub fn put_refused(&mut self, number: u8, offset: u64)
+        ensures { self.new ≡ written self.old (refused_line_of number offset) }
     {
         self.put_octets(b"refused ");
-        self.put_number(u8::from(refusal) as u64);
+        self.put_number(number as u64);
         self.put_octets(b" at ");
         self.put_number(offset);
         self.put_octet(b'\n');

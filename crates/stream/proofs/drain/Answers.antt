@@ -6,7 +6,7 @@ use Rattle.filter.specs.declared.Filter.{Filter}
 use Rattle.filter.specs.Meaning.{no_row}
 use Rattle.stage.specs.Meaning.{bridge}
 use Rattle.stream.specs.Meaning.{empty_table}
-use Rattle.stream.proofs.Laws.{stands_first, stands_drains, ok_by}
+use Rattle.stream.proofs.Laws.{stands_first, stands_drains, well}
 use Rattle.stream.proofs.drain.Goals as goal
 
 -- a row whose every field is 0 is the empty one
@@ -28,4 +28,4 @@ returns g c =
     let bank = rows_of c.args.bank.now in
     let lists = c.args.lists.now in
     stands_drains bank lists c.pieces-end.new.self _ _ (c.pieces-end.ensures.stands (bridge empty_table bank lists) (stands_first bank lists _ _ c.args.quiet _ _ (zeros_empty _ c.default.ensures) c.fresh.ensures)) _ c.ended.ensures refl refl
-    (λ none. c.pieces-end.ensures.over (ok_by c.pieces-end.result (sym c.err.ensures.value ∙ none)))
+    (λ none. c.pieces-end.ensures.over (well c.pieces-end.result (sym c.last_failure.ensures ∙ none)))

@@ -13,5 +13,5 @@ returns-in-Ok g c = as_it_was
 
 pub returns-in-Err : goal.returns-in-Err
 returns-in-Err g c =
-    subst (λ (f : Failure). Reported c.args.d (record { failure = Some f; refusal = c.args.d.refusal; records = c.args.d.records; octets = c.args.d.octets })) (sym c.in-Err.ensures)
+    subst (λ (f : Failure). Reported c.args.d (record { failure = Some f; refusal = c.args.d.refusal; records = c.args.d.records; octets = c.args.d.octets })) (sym c.in-Err.ensures.unwritten)
     (unwritten (none_by c.args.d.failure (sym c.is_some.ensures ∙ c.if-is_some.false)))

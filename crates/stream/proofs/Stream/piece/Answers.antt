@@ -1,16 +1,16 @@
--- Nothing is taken where the read fails or gives nothing; else the run takes the stream on.
+-- Nothing is taken where the read fails or gives nothing; else the run takes the stream on, from the front of an empty page.
 use Rattle.std.proofs.Common.{ap, ◌∙◌, refl, arith}
 use Rattle.pieces.specs.Meaning.{Kept}
 use Rattle.pieces.proofs.Laws.{waiting_at_most}
 use Rattle.run.specs.Meaning.{piece_run_of}
-use Rattle.stream.proofs.Laws.{stands_still, stands_filled, stands_on}
+use Rattle.stream.proofs.Laws.{stands_still, stands_filled, stands_on, turns_on}
 use Rattle.stream.proofs.Stream.piece.Goals as goal
 
 pub returns-in_err-end-clause-stands : goal.returns-in_err-end-clause-stands
-returns-in_err-end-clause-stands g c b st = stands_still b c.args.self.now _ _ c.fill.new.buf st _ c.fill.auto.buf c.in_err-end.ensures
+returns-in_err-end-clause-stands g c b st = stands_still b c.args.self.now _ _ c.fill.new.buf st _ c.fill.auto.buf c.in_err-end.ensures.filled
 
 pub returns-then-end-self-clause-stands : goal.returns-then-end-self-clause-stands
-returns-then-end-self-clause-stands g c b st = stands_filled b c.args.self.now _ _ c.fill.new.buf st _ c.in_ok-end.ensures _ c.fill.auto.buf
+returns-then-end-self-clause-stands g c b st = stands_filled b c.args.self.now _ _ c.fill.new.buf st _ c.in_ok-end.ensures.filled _ c.fill.auto.buf
 
 -- what is taken is what does not wait
 pub overflow_sub-self : goal.overflow_sub-self
@@ -19,14 +19,24 @@ overflow_sub-self g c = rw (ap (λ (k : Kept). k.waiting) c.keep-left.ensures) (
 pub returns-in_default : goal.returns-in_default
 returns-in_default g c = record {
   stands = λ b st.
-      stands_on b c.args.self.now _ _ c.fill.new.buf st _ c.in_ok-end.ensures (omega arith) _ _ _ _ _ _ (c.run-p.ensures ∙ ap (piece_run_of _ _ _ _) c.again-from.ensures) _ _ c.keep-left.ensures _ refl;
+      stands_on b c.args.self.now _ _ c.fill.new.buf st _ c.in_ok-end.ensures.filled (omega arith) _ _ _ _ _ _ (c.run-p.ensures ∙ ap (piece_run_of _ _ _ _) c.again-from.ensures) _ _ c.keep-left.ensures _ refl;
   over = λ ended none. absurd (c.in_default.not-None none);
+  turned = turns_on c.args.self.now _ _ c.fill.new.buf _ c.in_ok-end.ensures.filled (omega arith) _ _ c.clear.ensures _ _ _ _ _ (c.run-p.ensures ∙ ap (piece_run_of _ _ _ _) c.again-from.ensures) _ _ c.keep-left.ensures _;
+  unread = tt;
 }
 
 pub returns-in-None-clause-stands : goal.returns-in-None-clause-stands
 returns-in-None-clause-stands g c b st =
-    stands_on b c.args.self.now _ _ c.fill.new.buf st _ c.in_ok-end.ensures (omega arith) _ _ _ _ _ _ (c.run-p.ensures ∙ ap (piece_run_of _ _ _ _) c.again-from.ensures) _ _ c.keep-left.ensures _ refl
+    stands_on b c.args.self.now _ _ c.fill.new.buf st _ c.in_ok-end.ensures.filled (omega arith) _ _ _ _ _ _ (c.run-p.ensures ∙ ap (piece_run_of _ _ _ _) c.again-from.ensures) _ _ c.keep-left.ensures _ refl
+
+pub returns-in-None-clause-turned : goal.returns-in-None-clause-turned
+returns-in-None-clause-turned g c =
+    turns_on c.args.self.now _ _ c.fill.new.buf _ c.in_ok-end.ensures.filled (omega arith) _ _ c.clear.ensures _ _ _ _ _ (c.run-p.ensures ∙ ap (piece_run_of _ _ _ _) c.again-from.ensures) _ _ c.keep-left.ensures _
 
 pub returns-in-None-2-clause-stands : goal.returns-in-None-2-clause-stands
 returns-in-None-2-clause-stands g c b st =
-    stands_on b c.args.self.now _ _ c.fill.new.buf st _ c.in_ok-end.ensures (omega arith) _ _ _ _ _ _ (c.run-p.ensures ∙ ap (piece_run_of _ _ _ _) c.again-from.ensures) _ _ c.keep-left.ensures _ refl
+    stands_on b c.args.self.now _ _ c.fill.new.buf st _ c.in_ok-end.ensures.filled (omega arith) _ _ _ _ _ _ (c.run-p.ensures ∙ ap (piece_run_of _ _ _ _) c.again-from.ensures) _ _ c.keep-left.ensures _ refl
+
+pub returns-in-None-2-clause-turned : goal.returns-in-None-2-clause-turned
+returns-in-None-2-clause-turned g c =
+    turns_on c.args.self.now _ _ c.fill.new.buf _ c.in_ok-end.ensures.filled (omega arith) _ _ c.clear.ensures _ _ _ _ _ (c.run-p.ensures ∙ ap (piece_run_of _ _ _ _) c.again-from.ensures) _ _ c.keep-left.ensures _
