@@ -3,9 +3,9 @@
 
 ghost use Rattle.std.specs.Prelude.{◌≡◌};
 ghost use Rattle.bank.specs.Meaning.{rows_of};
-ghost use Rattle.verdict.specs.Meaning.{answer_of};
+ghost use Rattle.verdict.specs.Meaning.{said, answer_of};
 ghost use Rattle.stage.specs.Meaning.{bridge};
-ghost use Rattle.transomrib.specs.Meaning.{reply_of, replied, replied_of, if_in_table, named_of};
+ghost use Rattle.transomrib.specs.Meaning.{spelled_of, reply_of, replied, replied_of, if_in_table, named_of};
 
 use bank::{Bank, Lists};
 use filter::Filter;
@@ -47,44 +47,52 @@ pub fn transomrib_take(
     Reply::from(stage::take(table, bank, lists, input))
 }
 
-// The answer as numbers.
-// Ruled out: the number of a refusal lost; a pass without its eligibility time.
+// The answer as numbers. A refusal uses no octets.
+// Ruled out: a refusal that uses one; a record that uses none.
 impl From<Result<Taken, Refusal>> for Reply {
     ghost from_gives = { λ answer reply. reply ≡ reply_of (answer_of answer) };
 
     fn from(answer: Result<Taken, Refusal>) -> Reply {
         match answer {
-            Err(r) => Reply {
-                number: u8::from(r),
-                ..Reply::default()
-            },
-            Ok(Taken { used, outcome }) => {
-                let used = used as u64;
-                match outcome {
-                    Outcome::Done => Reply {
-                        used,
-                        verdict: 1,
-                        ..Reply::default()
-                    },
-                    Outcome::Passed(p) => Reply {
-                        eligible: p.eligible.unwrap_or(0),
-                        used,
-                        verdict: 2,
-                        number: 0,
-                        priority: p.priority,
-                        class: p.class,
-                        drop_mark: p.drop_mark,
-                        timed: p.eligible.is_some() as u8,
-                    },
-                    Outcome::Dropped(d) => Reply {
-                        used,
-                        verdict: 3,
-                        number: u8::from(d),
-                        ..Reply::default()
-                    },
-                }
-            }
+            Err(why) => spelled(0, Err(why)),
+            Ok(taken) => spelled(taken.used, Ok(taken.outcome)),
         }
+    }
+}
+
+// An answer as numbers: the octets that it uses, and what came of the record or why it is refused.
+// Ruled out: the number of a refusal lost; a pass without its eligibility time.
+pub fn spelled(used: usize, outcome: Result<Outcome, Refusal>) -> Reply
+    ensures { result ≡ spelled_of used (said outcome) }
+{
+    let used = used as u64;
+    match outcome {
+        Err(r) => Reply {
+            used,
+            number: u8::from(r),
+            ..Reply::default()
+        },
+        Ok(Outcome::Done) => Reply {
+            used,
+            verdict: 1,
+            ..Reply::default()
+        },
+        Ok(Outcome::Passed(p)) => Reply {
+            eligible: p.eligible.unwrap_or(0),
+            used,
+            verdict: 2,
+            number: 0,
+            priority: p.priority,
+            class: p.class,
+            drop_mark: p.drop_mark,
+            timed: p.eligible.is_some() as u8,
+        },
+        Ok(Outcome::Dropped(d)) => Reply {
+            used,
+            verdict: 3,
+            number: u8::from(d),
+            ..Reply::default()
+        },
     }
 }
 
