@@ -1,5 +1,5 @@
 -- The search: what it finds, and what it doesn't depend on.
-use Rattle.std.specs.Prelude.{ℕ, zero, suc, ◌+◌, ◌-◌, ◌≤◌, ◌<◌, Bool, true, false, cond, ◌≡◌, List, ltb, length, get_or, take, set, min, Some, None}
+use Rattle.std.specs.Prelude.{ℕ, zero, suc, ◌+◌, ◌-◌, ◌≤◌, ◌<◌, Bool, true, false, cond, ◌≡◌, List, ltb, length, get_or, take, set, min, max, Some, None}
 use Rattle.std.proofs.Common.{true≢false, sym, ap, subst, ◌∙◌, arith, ltb-true, ltb-false, get_or-set_same, get_or-set_other}
 use Rattle.std.proofs.Math.Path.{refl}
 use Rattle.std.proofs.lemmas.List.{get_or-take, length-take}
@@ -7,7 +7,6 @@ use Rattle.std.proofs.lemmas.Option.{some_pair_parts}
 use Rattle.std.proofs.Math.Decide.{ℕ_discrete}
 use Rattle.std.proofs.Math.ListN.{get_or-eq_default}
 use Rattle.std.proofs.Math.Seq.{set_out}
-use Rattle.sizes.specs.Meaning.{filter_count}
 use Rattle.bank.specs.Meaning.{Rows}
 use Rattle.filter.specs.declared.Filter.{Filter}
 use Rattle.filter.specs.declared.Key.{Key}
@@ -49,29 +48,45 @@ module _ (test : Filter → Bool) (rows : List Filter) where
       first_next end i (omega (arith, h)) (none i (omega arith) (omega arith)) ∙ first_past end (i + 1) n (omega (arith, h)) (λ j l u. none j (omega (arith, l)) (omega (arith, u)))
       ∙ ap (λ (k : ℕ). first_found test rows k (end - k)) (omega arith)
 
-  -- the first place of all
-  pub first_at : (i : ℕ) → i < filter_count → test (row_of rows i) ≡ true → ((k : ℕ) → k < i → test (row_of rows k) ≡ false) → first_of_all test rows ≡ Some (i, row_of rows i)
-  unfolding first_of_all
-  first_at i h hits none =
-      first_past filter_count 0 i (omega (arith, h)) (λ j l u. none j (omega (arith, u)))
-      ∙ ap (λ (k : ℕ). first_found test rows k (filter_count - k)) (omega arith) ∙ first_hit filter_count i h hits
-
-  -- none, where no row of the table passes nor the empty one
-  pub first_nowhere : (i : ℕ) → min (length rows) filter_count ≤ i → ((k : ℕ) → k < i → test (row_of rows k) ≡ false) → test no_row ≡ false → first_of_all test rows ≡ None
-  unfolding first_of_all
-  first_nowhere i far none empty = first_past filter_count 0 filter_count (omega arith) (λ j l u. by_place j u (ltb j (length rows)) refl)
+  -- the first place from `from` on
+  pub first_at : (from to i : ℕ) → from ≤ i → i < to → test (row_of rows i) ≡ true → ((k : ℕ) → from ≤ k → k < i → test (row_of rows k) ≡ false) → first_found test rows from (to - from) ≡ Some (i, row_of rows i)
+  first_at from to i low high hits none =
+      first_past to from (i - from) (omega (arith, low, high)) (λ j l u. none j l (omega (arith, u, low))) ∙ ap (λ (k : ℕ). first_found test rows k (to - k)) (reached low) ∙ first_hit to i high hits
     where
-      by_place : (j : ℕ) → j < filter_count → (t : Bool) → ltb j (length rows) ≡ t → test (row_of rows j) ≡ false
-      by_place j u true e = none j (omega (arith, far, u, ltb-true j (length rows) e))
-      by_place j u false e = ap test (get_or-eq_default rows no_row (ltb-false j (length rows) e)) ∙ empty
+      reached : from ≤ i → from + (i - from) ≡ i
+      reached h = omega (arith, h)
+
+  -- none, where no place passes
+  first_none : (i n : ℕ) → ((j : ℕ) → i ≤ j → j < i + n → test (row_of rows j) ≡ false) → first_found test rows i n ≡ None
+  first_none i zero none = refl
+  first_none i (suc n) none =
+      ap (λ (t : Bool). cond t (Some (i, row_of rows i)) (first_found test rows (i + 1) n)) (none i (omega arith) (omega arith))
+      ∙ first_none (i + 1) n (λ j l u. none j (omega (arith, l)) (omega (arith, u)))
+
+  -- none, where no row of the table passes, nor the empty one where it is asked
+  pub first_nowhere : (from to i : ℕ) → min (length rows) to ≤ i → ((k : ℕ) → from ≤ k → k < i → test (row_of rows k) ≡ false) → (max (length rows) from < to → test no_row ≡ false) → first_found test rows from (to - from) ≡ None
+  first_nowhere from to i far none empty = first_none from (to - from) (λ j l u. by_place j l (omega (arith, l, u)) (ltb j (length rows)) refl)
+    where
+      by_place : (j : ℕ) → from ≤ j → j < to → (t : Bool) → ltb j (length rows) ≡ t → test (row_of rows j) ≡ false
+      by_place j l u true e = none j l (omega (arith, far, u, ltb-true j (length rows) e))
+      by_place j l u false e = ap test (get_or-eq_default rows no_row (ltb-false j (length rows) e)) ∙ empty (omega (arith, l, u, ltb-false j (length rows) e))
+
+  -- the first place past the table's end, where the empty row passes and none of the table does
+  pub first_past_end : (from to i : ℕ) → min (length rows) to ≤ i → ((k : ℕ) → from ≤ k → k < i → test (row_of rows k) ≡ false) → max (length rows) from < to → test no_row ≡ true
+      → first_found test rows from (to - from) ≡ Some (max (length rows) from, no_row)
+  first_past_end from to i far none within hits =
+      first_at from to (max (length rows) from) (omega arith) within (ap test empty ∙ hits) (λ k l u. none k l (omega (arith, far, l, u, within))) ∙ ap (λ (row : Filter). Some (max (length rows) from, row)) empty
+    where
+      empty : row_of rows (max (length rows) from) ≡ no_row
+      empty = get_or-eq_default rows no_row (omega arith)
 
   -- a place more of which the row doesn't pass
-  pub all_before : (i : ℕ) → ((k : ℕ) → k < i → test (row_of rows k) ≡ false) → test (row_of rows i) ≡ false → (k : ℕ) → k < i + 1 → test (row_of rows k) ≡ false
-  all_before i none e k h = by_place (ℕ_discrete k i)
+  pub all_before : (from i : ℕ) → ((k : ℕ) → from ≤ k → k < i → test (row_of rows k) ≡ false) → test (row_of rows i) ≡ false → (k : ℕ) → from ≤ k → k < i + 1 → test (row_of rows k) ≡ false
+  all_before from i none e k l h = by_place (ℕ_discrete k i)
     where
       by_place : Dec (k ≡ i) → test (row_of rows k) ≡ false
       by_place (yes p) = ap (λ (j : ℕ). test (row_of rows j)) p ∙ e
-      by_place (no p) = none k (omega (arith, h, p))
+      by_place (no p) = none k l (omega (arith, h, p))
 
   -- what is found among the places from i up to and without `end`
   pub record Finds (i end k : ℕ) (row : Filter) : Type 0 where
@@ -170,7 +185,7 @@ module _ (s : Rows) (q : Question) (rows : List Filter) where
   pub search_one : q.asks ≡ Any → q.to ≡ q.from + 1 → search_of s q rows ≡ Some (q.from, row_of rows q.from)
   search_one asks to = sym search_begins ∙ search_hit q.from (omega (arith, to)) (answers_asked s (row_of rows q.from) q Any asks)
 
--- the search of every place, as the code does it
+-- the search of every place, as the code does it for start
 pub search_whole : (s : Rows) (rows : List Filter) (asks : Asks) (key : Key) → first_of_all (row_answers s (of_every_place asks key)) rows ≡ search_of s (of_every_place asks key) rows
 unfolding search_of first_of_all
 search_whole s rows asks key = refl

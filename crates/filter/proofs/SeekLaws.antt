@@ -1,10 +1,12 @@
 -- Of passing rows over: the search finds the same, `sought`.
-use Rattle.std.specs.Prelude.{ℕ, zero, suc, ◌+◌, ◌-◌, ◌≤◌, ◌<◌, Bool, true, false, ◌&&◌, ◌||◌, cond, ◌≡◌, refl, List, eqb, ltb, length}
+use Rattle.std.specs.Prelude.{ℕ, zero, suc, ◌+◌, ◌-◌, ◌≤◌, ◌<◌, Bool, true, false, ◌&&◌, ◌||◌, cond, ◌≡◌, refl, List, eqb, ltb, length, min}
 use Rattle.std.proofs.Common.{sym, ap, ◌∙◌, arith, ltb-true, ltb-false}
 use Rattle.std.proofs.Math.Decide.{ℕ_discrete}
 use Rattle.bank.specs.Meaning.{Rows}
+use Rattle.sizes.specs.Meaning.{filter_count}
 use Rattle.filter.specs.declared.Filter.{Filter}
-use Rattle.filter.specs.Meaning.{counts_of, fits_of, row_of, Asks, Fits, Missing, ExceedsBurst, Any, Question, row_answers, search_from}
+use Rattle.filter.specs.declared.Key.{Key}
+use Rattle.filter.specs.Meaning.{counts_of, fits_of, row_of, Asks, Fits, Missing, ExceedsBurst, Any, Question, of_every_place, row_answers, search_from}
 use Rattle.filter.proofs.Laws.{answers_asked}
 use Rattle.filter.proofs.SearchLaws.{search_past}
 use Rattle.filter.specs.Seek.{first_of, near_of, passable, passable_of, seek_of}
@@ -62,6 +64,14 @@ module _ (test : ℕ → Bool) where
 pub passable_asked : (q : Question) (n : ℕ) (a : Asks) → q.asks ≡ a → passable_of q n ≡ passable a q.to n
 unfolding passable_of
 passable_asked q n a e = ap (λ (k : Asks). passable k q.to n) e
+
+-- for a frame, of every place, all that the table has
+pub passable_every : (key : Key) (n : ℕ) → passable_of (of_every_place Fits key) n ≡ min n filter_count
+passable_every key n = passable_asked (of_every_place Fits key) n Fits refl ∙ by_test (ltb filter_count n) refl
+  where
+    by_test : (t : Bool) → ltb filter_count n ≡ t → cond t filter_count n ≡ min n filter_count
+    by_test true e = omega (arith, ltb-true filter_count n e)
+    by_test false e = omega (arith, ltb-false filter_count n e)
 
 -- a row that is passed over answers no frame
 near_answers : (s : Rows) (q : Question) (f : Filter) → q.asks ≡ Fits → near_of q.key.handle f ≡ false → row_answers s q f ≡ false

@@ -1,4 +1,4 @@
--- The search that the three questions share: the first row of the whole table that passes a test. Not part of what document 01 says.
+-- The search that start's two questions share: the first row of the whole table that passes a test. Not part of what document 01 says.
 use Rattle.std.specs.Prelude.{Bool, List}
 use Rattle.sizes.specs.Meaning.{filter_count}
 use Rattle.filter.specs.declared.Filter.{Filter}

@@ -2,12 +2,12 @@
 // path, step 1). The table is lent; place n is filter n's.
 #![tactic(auto)]
 
-ghost use Rattle.std.specs.Prelude.{◌≡◌, Bool, false, set};
+ghost use Rattle.std.specs.Prelude.{◌≡◌, ◌-◌, Bool, set};
 ghost use Rattle.std.specs.Fn.{FnReturnsAt};
 ghost use Rattle.bank.specs.Meaning.{rows_of};
 ghost use Rattle.filter.specs.declared.Filter.{Filter};
-ghost use Rattle.filter.specs.Meaning.{no_row, row_in_range, is_filter_of, names_missing, exceeds_burst, counts_of, fits_of, row_of, Fits, Missing, ExceedsBurst, no_key, of_every_place, search_of, filter_of, key_of};
-ghost use Rattle.filter.specs.Search.{first_of_all};
+ghost use Rattle.filter.specs.Meaning.{no_row, row_in_range, is_filter_of, names_missing, exceeds_burst, counts_of, fits_of, row_of, Fits, Missing, ExceedsBurst, no_key, of_every_place, first_found, search_of, filter_of, key_of};
+ghost use Rattle.filter.specs.Seek.{near_of, seek_of};
 
 use bank::Bank;
 use record::{ArrivalRecord, FilterRecord};
@@ -15,9 +15,8 @@ use record::{ArrivalRecord, FilterRecord};
 // A row, as document 01's kind 2 has it but for the identifier, which is the row's place. All numbers: whatever a caller leaves in the
 // table is a row. A row of zeros, the default, is empty.
 // Kept: numbers for flags, for any and for none, as C writes them (`transomrib_filter` in include/transomrib.h).
-// Ruled out of the default: a row that is used; a row with a handle.
 #[repr(C)]
-#[derive(Clone, Copy, Default)]
+#[derive(Clone, Copy)]
 pub struct Filter {
     pub handle: u32,
     // In octets; 0 is none.
@@ -33,6 +32,26 @@ pub struct Filter {
     // 255 is none, of the meter and of the scheduler.
     pub meter: u8,
     pub scheduler: u8,
+}
+
+// The empty row.
+// Ruled out: a row that is used; a row with a handle.
+impl Default for Filter {
+    ghost is_default = { λ row. row ≡ no_row };
+
+    fn default() -> Filter {
+        Filter {
+            handle: 0,
+            max_sdu: 0,
+            used: 0,
+            any_handle: 0,
+            priority: 0,
+            gate: 0,
+            oversize_block: 0,
+            meter: 0,
+            scheduler: 0,
+        }
+    }
 }
 
 // What of a frame a row has to match.
@@ -76,12 +95,17 @@ impl From<ArrivalRecord> for Key {
 }
 
 // The row that a frame uses, and its place: the first that fits the frame and counts. Whether it counts is asked last, since most rows are
-// ruled out before.
+// ruled out before; up to the first that the handle does not rule out, nothing else is asked.
 // Ruled out: a row for any handle passed over; a row that names a missing gate used by a frame; the last row that answers.
 pub fn matching(table: &[Filter], bank: &Bank, key: Key) -> Option<(usize, Filter)>
     ensures { result ≡ search_of (rows_of bank.now) (of_every_place Fits key) table.now }
 {
-    search(table, |row| row.fits(key) && row.counts(bank))
+    search(
+        table,
+        seek(table, key),
+        sizes::FILTERS,
+        |row| row.fits(key) && row.counts(bank),
+    )
 }
 
 // The first row that start refuses with 7, and its place.
@@ -89,7 +113,12 @@ pub fn matching(table: &[Filter], bank: &Bank, key: Key) -> Option<(usize, Filte
 pub fn first_missing(table: &[Filter], bank: &Bank) -> Option<(usize, Filter)>
     ensures { result ≡ search_of (rows_of bank.now) (of_every_place Missing no_key) table.now }
 {
-    search(table, |row| row.is_filter() && row.names_missing(bank))
+    search(
+        table,
+        0,
+        sizes::FILTERS,
+        |row| row.is_filter() && row.names_missing(bank),
+    )
 }
 
 // The first row that start refuses with 8, and its place.
@@ -97,22 +126,52 @@ pub fn first_missing(table: &[Filter], bank: &Bank) -> Option<(usize, Filter)>
 pub fn first_exceeding(table: &[Filter], bank: &Bank) -> Option<(usize, Filter)>
     ensures { result ≡ search_of (rows_of bank.now) (of_every_place ExceedsBurst no_key) table.now }
 {
-    search(table, |row| row.is_filter() && row.exceeds_burst(bank))
+    search(
+        table,
+        0,
+        sizes::FILTERS,
+        |row| row.is_filter() && row.exceeds_burst(bank),
+    )
 }
 
-// The first row that passes a test, in ascending identifier, and its place. The places past the table's end are empty, so that the test
-// has to fail of an empty row.
-fn search<F: Fn(&Filter) -> bool>(table: &[Filter], passes: F) -> Option<(usize, Filter)>
+// The first row that passes a test, in ascending identifier, and its place, on the places `from` up to and without `to`. The rows past the
+// table's end are alike, so that one of them is asked.
+// Ruled out: the last row that answers; a row before `from`; an empty row past the table's end passed over.
+pub fn search<F: Fn(&Filter) -> bool>(
+    table: &[Filter],
+    from: usize,
+    to: usize,
+    passes: F,
+) -> Option<(usize, Filter)>
     requires { F.IsAlwaysCallable passes }
-    ensures { (test : Filter → Bool) → ((row : Filter) (b : Bool) → FnReturnsAt F.Fn passes row b → b ≡ test row) → test no_row ≡ false → result ≡ first_of_all test table.now }
+    ensures { (test : Filter → Bool) → ((row : Filter) (b : Bool) → FnReturnsAt F.Fn passes row b → b ≡ test row) → result ≡ first_found test table.now from (to - from) }
 {
-    let rows = &table[..table.len().min(sizes::FILTERS)];
-    for (i, row) in rows.iter().enumerate() {
+    let end = table.len().min(to);
+    for i in from..end {
+        let row = &table[i];
         if passes(row) {
             return Some((i, *row));
         }
     }
+    let past = table.len().max(from);
+    let empty = Filter::default();
+    if past < to && passes(&empty) {
+        return Some((past, empty));
+    }
     None
+}
+
+// The first place whose row a frame's handle does not rule out: most rows are passed over here, after two loads each.
+fn seek(table: &[Filter], key: Key) -> usize
+    ensures { result ≡ seek_of (of_every_place Fits key) table.now 0 }
+{
+    let end = table.len().min(sizes::FILTERS);
+    for i in 0..end {
+        if table[i].near(key.handle) {
+            return i;
+        }
+    }
+    end
 }
 
 // The row at a place; past the table's end, the empty one.
@@ -135,6 +194,13 @@ pub fn put_row(table: &mut [Filter], place: usize, row: Filter)
 }
 
 impl Filter {
+    #[tactic(auto, unfolding(crate::specs::Seek::near_of))]
+    fn near(&self, handle: u32) -> bool
+        ensures { result ≡ near_of handle self.now }
+    {
+        (self.handle == handle) | (self.any_handle == 1)
+    }
+
     // Whether handle and priority of a frame match the row's. The handle alone rules most rows out, after two loads each.
     // Ruled out: any-handle taken for handle 0; priority 8 taken for a priority.
     #[tactic(auto, unfolding(crate::specs::Meaning::fits_of))]

@@ -1,14 +1,16 @@
--- `filter::matching` meets its contract: the closure is what `row_answers` asks.
-use Rattle.std.proofs.Common.{◌∙◌, rules}
+-- `filter::matching` meets its contract: the closure is what `row_answers` asks, and no row that `seek` passes over answers (`sought`).
+use Rattle.std.proofs.Common.{◌∙◌, ap, rules}
 use Rattle.bank.specs.Meaning.{rows_of}
-use Rattle.filter.specs.Meaning.{Fits, of_every_place, row_answers}
-use Rattle.filter.proofs.Laws.{answers_empty}
-use Rattle.filter.proofs.SearchLaws.{search_whole}
+use Rattle.filter.specs.Meaning.{Fits, of_every_place, row_answers, search_from}
+use Rattle.filter.proofs.SearchLaws.{search_begins}
+use Rattle.filter.proofs.SeekLaws.{sought}
 use Rattle.filter.proofs.matching.Goals as goal
 
 pub returns : goal.returns
 unfolding row_answers
 returns c =
     let q = of_every_place Fits c.args.key in
-    c.search.ensures (row_answers (rows_of c.args.bank.now) q) (λ row b says. search rules) (answers_empty (rows_of c.args.bank.now) q tt)
-    ∙ search_whole (rows_of c.args.bank.now) c.args.table.now Fits c.args.key
+    c.search.ensures (row_answers (rows_of c.args.bank.now) q) (λ row b says. search rules)
+    ∙ ap (search_from (rows_of c.args.bank.now) q c.args.table.now) c.seek.ensures
+    ∙ sought q c.args.table.now (rows_of c.args.bank.now) 0
+    ∙ search_begins (rows_of c.args.bank.now) q c.args.table.now

@@ -1,22 +1,31 @@
--- `filter::search` meets its contract: the row that the closure passes is the first that does (`first_at`), and where it passes none, no place
--- passes (`first_nowhere`), for those past the table's end are empty.
-use Rattle.std.proofs.Common.{sym, ◌∙◌, ap, arith, rules, Some}
-use Rattle.std.proofs.lemmas.List.{length-take}
-use Rattle.filter.specs.declared.Filter.{Filter}
-use Rattle.filter.proofs.SearchLaws.{first_at, first_nowhere, row_within, all_before}
+-- `filter::search` meets its contract: the row of the table that the closure passes is the first that does (`first_at`); past the table's end the
+-- empty row is the first (`first_past_end`), or no place passes (`first_nowhere`).
+use Rattle.std.proofs.Common.{◌≡◌, ◌<◌, false, max, length, sym, ◌∙◌, ap, arith, rules}
+use Rattle.filter.specs.Meaning.{no_row}
+use Rattle.filter.proofs.SearchLaws.{first_at, first_nowhere, first_past_end, all_before}
 use Rattle.filter.proofs.search.Goals as goal
+use Rattle.filter.proofs.search.Goals.{else-past-to-via-then-past-to+else-passes-2, else-past-to-via-else-past-to}
 
 pub returns-then-passes : goal.returns-then-passes
-returns-then-passes g c test says none =
-    let here = row_within c.args.table.now c.min.result c.loop-i.i c.loop-i-test.true in
-    ap (λ (row : Filter). Some (c.loop-i.i, row)) here
-    ∙ sym (first_at test c.args.table.now c.loop-i.i (omega (arith, c.min.ensures, c.loop-i-test.true, length-take c.min.result c.args.table.now)) (ap test (sym here) ∙ sym (says _ _ (search rules)) ∙ c.if-passes.true) (c.loop-i.invariant test says))
+returns-then-passes g c test says =
+    sym (first_at test c.args.table.now c.args.from c.args.to c.loop-i.i (omega arith) (omega arith) (sym (says _ _ (search rules)) ∙ c.if-passes.true) (c.loop-i.invariant test says))
 
 pub loop-i-preserved : goal.loop-i-preserved
 loop-i-preserved g c test says =
-    let here = row_within c.args.table.now c.min.result c.loop-i.i c.loop-i-test.true in
-    all_before test c.args.table.now c.loop-i.i (c.loop-i.invariant test says) (ap test (sym here) ∙ sym (says _ _ (search rules)) ∙ c.if-passes.false)
+    all_before test c.args.table.now c.args.from c.loop-i.i (c.loop-i.invariant test says) (sym (says _ _ (search rules)) ∙ c.if-passes.false)
+
+pub returns-then-passes-2 : goal.returns-then-passes-2
+returns-then-passes-2 g c test says =
+    let passed = ap test (sym c.default-empty.ensures) ∙ sym (says _ _ (search rules)) ∙ c.if-passes-2.true in
+    let found = first_past_end test c.args.table.now c.args.from c.args.to c.loop-i.i (omega arith) (c.loop-i.invariant test says) (omega arith) passed in
+    cc
 
 pub returns : goal.returns
-returns g c test says none =
-    sym (first_nowhere test c.args.table.now c.loop-i.i (omega (arith, c.min.ensures, c.loop-i-test.false, length-take c.min.result c.args.table.now)) (c.loop-i.invariant test says) none)
+returns g c test says =
+    sym (first_nowhere test c.args.table.now c.args.from c.args.to c.loop-i.i (omega arith) (c.loop-i.invariant test says) failed)
+  where
+    failed : max (length c.args.table.now) c.args.from < c.args.to → test no_row ≡ false
+    failed within = elim c.else-past-to.branch [
+      | else-past-to-via-then-past-to+else-passes-2 w ↦ ap test (sym c.default-empty.ensures) ∙ sym (says _ _ (search rules)) ∙ w.if-passes-2.false
+      | else-past-to-via-else-past-to w ↦ absurd (omega arith)
+    ]
