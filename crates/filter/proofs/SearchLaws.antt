@@ -7,6 +7,7 @@ use Rattle.std.proofs.lemmas.Option.{some_pair_parts}
 use Rattle.std.proofs.Math.Decide.{ℕ_discrete}
 use Rattle.std.proofs.Math.ListN.{get_or-eq_default}
 use Rattle.std.proofs.Math.Seq.{set_out}
+use Rattle.sizes.specs.Meaning.{filter_count}
 use Rattle.bank.specs.Meaning.{Rows}
 use Rattle.filter.specs.declared.Filter.{Filter}
 use Rattle.filter.specs.declared.Key.{Key}
@@ -184,6 +185,11 @@ module _ (s : Rows) (q : Question) (rows : List Filter) where
   -- one place, of which nothing is asked
   pub search_one : q.asks ≡ Any → q.to ≡ q.from + 1 → search_of s q rows ≡ Some (q.from, row_of rows q.from)
   search_one asks to = sym search_begins ∙ search_hit q.from (omega (arith, to)) (answers_asked s (row_of rows q.from) q Any asks)
+
+-- the search from a place on, of what is asked of every place
+pub search_rest : (s : Rows) (rows : List Filter) (asks : Asks) (key : Key) (from : ℕ) → search_of s (record { from = from; to = filter_count; asks = asks; key = key }) rows ≡ search_from s (of_every_place asks key) rows from
+unfolding search_of row_answers
+search_rest s rows asks key from = refl
 
 -- the search of every place, as the code does it for start
 pub search_whole : (s : Rows) (rows : List Filter) (asks : Asks) (key : Key) → first_of_all (row_answers s (of_every_place asks key)) rows ≡ search_of s (of_every_place asks key) rows

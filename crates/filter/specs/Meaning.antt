@@ -8,6 +8,9 @@ use Rattle.record.specs.declared.ArrivalRecord.{ArrivalRecord}
 use Rattle.bank.specs.Meaning.{Rows, gate_is_set, meter_is_set, scheduler_is_set, burst, component}
 use Rattle.filter.specs.declared.Filter.{Filter}
 use Rattle.filter.specs.declared.Key.{Key}
+use Rattle.filter.specs.declared.Asks.{Asks as AskedOf}
+use Rattle.filter.specs.declared.Asks.TheVariants as question
+use Rattle.filter.specs.declared.Question.{Question as QuestionAsked}
 
 -- ---- a row
 
@@ -87,6 +90,16 @@ pub record Question : Type 0 where
   pub to : ℕ
   pub asks : Asks
   pub key : Key
+
+-- the same as the code has them
+abbrev pub asks_of : AskedOf → Asks
+asks_of question.Fits = Fits
+asks_of question.Missing = Missing
+asks_of question.ExceedsBurst = ExceedsBurst
+asks_of question.Any = Any
+
+abbrev pub question_of : QuestionAsked → Question
+question_of q = record { from = q.from; to = q.to; asks = asks_of q.asks; key = q.key }
 
 -- a question on every place
 abbrev pub of_every_place : Asks → Key → Question

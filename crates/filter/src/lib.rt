@@ -6,7 +6,8 @@ ghost use Rattle.std.specs.Prelude.{◌≡◌, ◌-◌, Bool, set};
 ghost use Rattle.std.specs.Fn.{FnReturnsAt};
 ghost use Rattle.bank.specs.Meaning.{rows_of};
 ghost use Rattle.filter.specs.declared.Filter.{Filter};
-ghost use Rattle.filter.specs.Meaning.{no_row, row_in_range, is_filter_of, names_missing, exceeds_burst, counts_of, fits_of, row_of, Fits, Missing, ExceedsBurst, no_key, of_every_place, first_found, search_of, filter_of, key_of};
+ghost use Rattle.filter.specs.Meaning.{no_row, row_in_range, is_filter_of, names_missing, exceeds_burst, counts_of, fits_of, row_of, Fits, Missing, ExceedsBurst, no_key, of_every_place, first_found, question_of, search_of, filter_of, key_of};
+ghost use Rattle.sizes.specs.Meaning.{filter_count};
 ghost use Rattle.filter.specs.Seek.{near_of, seek_of};
 
 use bank::Bank;
@@ -81,6 +82,48 @@ impl From<FilterRecord> for Filter {
     }
 }
 
+// What a search asks of a row.
+#[derive(Clone, Copy)]
+pub enum Asks {
+    // Whether a frame uses it.
+    Fits,
+    // Whether start refuses it with 7.
+    Missing,
+    // Whether start refuses it with 8.
+    ExceedsBurst,
+    // Nothing: every row answers.
+    Any,
+}
+
+// Of what start asks, which matches nothing.
+const NO_KEY: Key = Key {
+    handle: 0,
+    priority: 0,
+};
+
+// A question on the places `from` up to and without `to`. Only `Fits` looks at the key.
+#[derive(Clone, Copy)]
+pub struct Question {
+    pub from: usize,
+    pub to: usize,
+    pub asks: Asks,
+    pub key: Key,
+}
+
+impl Question {
+    // On the places from `from` on.
+    fn of_rest(from: usize, asks: Asks, key: Key) -> Question
+        ensures { result ≡ record { from = from; to = filter_count; asks = asks; key = key } }
+    {
+        Question {
+            from,
+            to: sizes::FILTERS,
+            asks,
+            key,
+        }
+    }
+}
+
 // What a frame is matched by.
 // Ruled out: a handle of 0; the drop mark as the priority.
 impl From<ArrivalRecord> for Key {
@@ -94,17 +137,16 @@ impl From<ArrivalRecord> for Key {
     }
 }
 
-// The row that a frame uses, and its place: the first that fits the frame and counts. Whether it counts is asked last, since most rows are
-// ruled out before; up to the first that the handle does not rule out, nothing else is asked.
+// The row that a frame uses, and its place: the first that fits the frame and counts. Up to the first that the handle does not rule out, nothing
+// else is asked.
 // Ruled out: a row for any handle passed over; a row that names a missing gate used by a frame; the last row that answers.
 pub fn matching(table: &[Filter], bank: &Bank, key: Key) -> Option<(usize, Filter)>
     ensures { result ≡ search_of (rows_of bank.now) (of_every_place Fits key) table.now }
 {
     search(
         table,
-        seek(table, key),
-        sizes::FILTERS,
-        |row| row.fits(key) && row.counts(bank),
+        bank,
+        Question::of_rest(seek(table, key), Asks::Fits, key),
     )
 }
 
@@ -113,12 +155,7 @@ pub fn matching(table: &[Filter], bank: &Bank, key: Key) -> Option<(usize, Filte
 pub fn first_missing(table: &[Filter], bank: &Bank) -> Option<(usize, Filter)>
     ensures { result ≡ search_of (rows_of bank.now) (of_every_place Missing no_key) table.now }
 {
-    search(
-        table,
-        0,
-        sizes::FILTERS,
-        |row| row.is_filter() && row.names_missing(bank),
-    )
+    search(table, bank, Question::of_rest(0, Asks::Missing, NO_KEY))
 }
 
 // The first row that start refuses with 8, and its place.
@@ -128,16 +165,43 @@ pub fn first_exceeding(table: &[Filter], bank: &Bank) -> Option<(usize, Filter)>
 {
     search(
         table,
-        0,
-        sizes::FILTERS,
-        |row| row.is_filter() && row.exceeds_burst(bank),
+        bank,
+        Question::of_rest(0, Asks::ExceedsBurst, NO_KEY),
     )
 }
 
-// The first row that passes a test, in ascending identifier, and its place, on the places `from` up to and without `to`. The rows past the
-// table's end are alike, so that one of them is asked.
+// The first row that answers, in ascending identifier, and its place. Whether a row counts is asked last, since most are ruled out before.
 // Ruled out: the last row that answers; a row before `from`; an empty row past the table's end passed over.
-pub fn search<F: Fn(&Filter) -> bool>(
+#[tactic(auto, unfolding(crate::specs::Meaning::search_of, crate::specs::Meaning::row_answers))]
+pub fn search(table: &[Filter], bank: &Bank, q: Question) -> Option<(usize, Filter)>
+    ensures { result ≡ search_of (rows_of bank.now) (question_of q) table.now }
+{
+    let Question {
+        from,
+        to,
+        asks,
+        key,
+    } = q;
+    match asks {
+        Asks::Fits => first(table, from, to, |row| row.fits(key) && row.counts(bank)),
+        Asks::Missing => first(
+            table,
+            from,
+            to,
+            |row| row.is_filter() && row.names_missing(bank),
+        ),
+        Asks::ExceedsBurst => first(
+            table,
+            from,
+            to,
+            |row| row.is_filter() && row.exceeds_burst(bank),
+        ),
+        Asks::Any => first(table, from, to, |_| true),
+    }
+}
+
+// The first row that passes a test, and its place. The rows past the table's end are alike, so that one of them is asked.
+fn first<F: Fn(&Filter) -> bool>(
     table: &[Filter],
     from: usize,
     to: usize,

@@ -1,10 +1,10 @@
--- `filter::search` meets its contract: the row of the table that the closure passes is the first that does (`first_at`); past the table's end the
+-- `filter::first` meets its contract: the row of the table that the closure passes is the first that does (`first_at`); past the table's end the
 -- empty row is the first (`first_past_end`), or no place passes (`first_nowhere`).
 use Rattle.std.proofs.Common.{◌≡◌, ◌<◌, false, max, length, sym, ◌∙◌, ap, arith, rules}
 use Rattle.filter.specs.Meaning.{no_row}
 use Rattle.filter.proofs.SearchLaws.{first_at, first_nowhere, first_past_end, all_before}
-use Rattle.filter.proofs.search.Goals as goal
-use Rattle.filter.proofs.search.Goals.{else-past-to-via-then-past-to+else-passes-2, else-past-to-via-else-past-to}
+use Rattle.filter.proofs.first.Goals as goal
+use Rattle.filter.proofs.first.Goals.{else-past-to-via-then-past-to+else-passes-2, else-past-to-via-else-past-to}
 
 pub returns-then-passes : goal.returns-then-passes
 returns-then-passes g c test says =

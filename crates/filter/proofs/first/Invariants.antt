@@ -3,7 +3,7 @@ use Rattle.std.proofs.Common.{◌≡◌, ℕ, Bool, false, ◌<◌, ◌≤◌}
 use Rattle.std.specs.Fn.{FnReturnsAt}
 use Rattle.filter.specs.declared.Filter.{Filter}
 use Rattle.filter.specs.Meaning.{row_of}
-use Rattle.filter.proofs.search.Given as goal
+use Rattle.filter.proofs.first.Given as goal
 
 abbrev pub invariant-loop-i : goal.invariant-loop-i
 invariant-loop-i g l =
