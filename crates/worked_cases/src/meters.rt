@@ -17,16 +17,14 @@ pub fn print(rt: &impl Print) -> io::Result<()> {
     frame(rt, &mut m, 0, 500)?;
     // A frame of no octets: it fills the buckets and spends nothing.
     frame(rt, &mut m, 8800, 0)?;
-    print!(rt;
-        " {} {}",
-        m.committed / bucket::GRAINS,
-        m.excess / bucket::GRAINS
-    )?;
+    print!(rt; " {}", m.committed / bucket::GRAINS)?;
+    print!(rt; " {}", m.excess / bucket::GRAINS)?;
     print!(rt; "\nL")?;
     match class::traffic_class(0, 8) {
-        Some(class) => println!(rt; " {class}"),
-        None => println!(rt; " refused 3"),
-    }
+        Some(class) => print!(rt; " {class}"),
+        None => print!(rt; " refused 3"),
+    }?;
+    println!(rt; "")
 }
 
 fn worked(coupling: bool) -> Meter {
