@@ -133,7 +133,7 @@ struct Stream {
 }
 
 impl Stream {
-    // Turn by turn. Answers whether the stream goes on even so.
+    // Turn by turn. Answers whether the stream still goes on after all its turns.
     fn pieces<R: Read, W: Write>(
         &mut self,
         input: &mut R,

@@ -1,5 +1,5 @@
 -- Nothing is taken where the read fails or gives nothing; else the run takes the stream on, from the front of an empty page.
-use Rattle.std.proofs.Common.{ap, ◌∙◌, refl, arith}
+use Rattle.std.proofs.Common.{ap, ◌∙◌, refl, arith, rules}
 use Rattle.pieces.specs.Meaning.{Kept}
 use Rattle.pieces.proofs.Laws.{waiting_at_most}
 use Rattle.run.specs.Meaning.{piece_run_of}
@@ -21,7 +21,7 @@ returns-in_default g c = record {
   stands = λ b st.
       stands_on b c.args.self.now _ _ c.fill.new.buf st _ c.in_ok-end.ensures.filled (omega arith) _ _ _ _ _ _ (c.run-p.ensures ∙ ap (piece_run_of _ _ _ _) c.again-from.ensures) _ _ c.keep-left.ensures _ refl;
   over = λ ended none. absurd (c.in_default.not-None none);
-  turned = turns_on c.args.self.now _ _ c.fill.new.buf _ c.in_ok-end.ensures.filled (omega arith) _ _ c.clear.ensures _ _ _ _ _ (c.run-p.ensures ∙ ap (piece_run_of _ _ _ _) c.again-from.ensures) _ _ c.keep-left.ensures _;
+  turned = turns_on c.args.self.now _ _ c.fill.new.buf _ c.in_ok-end.ensures.filled (omega arith) _ c.args.self.now.page.octets (search rules) _ _ _ _ _ (c.run-p.ensures ∙ ap (piece_run_of _ _ _ _) c.again-from.ensures) _ _ c.keep-left.ensures _;
   unread = tt;
 }
 
@@ -31,7 +31,7 @@ returns-in-None-clause-stands g c b st =
 
 pub returns-in-None-clause-turned : goal.returns-in-None-clause-turned
 returns-in-None-clause-turned g c =
-    turns_on c.args.self.now _ _ c.fill.new.buf _ c.in_ok-end.ensures.filled (omega arith) _ _ c.clear.ensures _ _ _ _ _ (c.run-p.ensures ∙ ap (piece_run_of _ _ _ _) c.again-from.ensures) _ _ c.keep-left.ensures _
+    turns_on c.args.self.now _ _ c.fill.new.buf _ c.in_ok-end.ensures.filled (omega arith) _ c.args.self.now.page.octets (search rules) _ _ _ _ _ (c.run-p.ensures ∙ ap (piece_run_of _ _ _ _) c.again-from.ensures) _ _ c.keep-left.ensures _
 
 pub returns-in-None-2-clause-stands : goal.returns-in-None-2-clause-stands
 returns-in-None-2-clause-stands g c b st =
@@ -39,4 +39,4 @@ returns-in-None-2-clause-stands g c b st =
 
 pub returns-in-None-2-clause-turned : goal.returns-in-None-2-clause-turned
 returns-in-None-2-clause-turned g c =
-    turns_on c.args.self.now _ _ c.fill.new.buf _ c.in_ok-end.ensures.filled (omega arith) _ _ c.clear.ensures _ _ _ _ _ (c.run-p.ensures ∙ ap (piece_run_of _ _ _ _) c.again-from.ensures) _ _ c.keep-left.ensures _
+    turns_on c.args.self.now _ _ c.fill.new.buf _ c.in_ok-end.ensures.filled (omega arith) _ c.args.self.now.page.octets (search rules) _ _ _ _ _ (c.run-p.ensures ∙ ap (piece_run_of _ _ _ _) c.again-from.ensures) _ _ c.keep-left.ensures _
