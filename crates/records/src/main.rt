@@ -111,15 +111,11 @@ fn print_all<R: Read, W: Write>(input: &mut R, output: &mut W) -> Result<(), Fai
         started: false,
     };
     let end = printer.print_pieces(input, output);
-    let Printer {
-        mut page,
-        offset,
-        started: _,
-    } = printer;
     if let Err(Stop::Refused(why)) = end {
-        page.put_refused(u8::from(why), offset);
+        let offset = printer.offset;
+        printer.page.put_refused(u8::from(why), offset);
     }
-    pieces::write(output, page.text())?;
+    pieces::write(output, printer.page.text())?;
     match end {
         Err(Stop::Failed(failure)) => Err(failure),
         _ => Ok(()),

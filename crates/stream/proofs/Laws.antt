@@ -56,8 +56,8 @@ well (Ok false) e = refl
 well (Err failure) e = absurd cc
 
 -- before the first piece
-module _ (bank : Rows) (lists buffer : List ℕ) (w : Page) where
-  abbrev begun : Filter → Progress → Stream
+module _ {n : ℕ} (bank : Rows) (lists buffer : List ℕ) (w : Page) where
+  abbrev begun : Filter → Progress → Stream n
   begun row p = record { table = repeated row filter_count; buffer = buffer; page = w; kept = 0; octets = 0; progress = p }
 
   first : (quiet : Bool) → Stands (bridge empty_table bank lists) (begun no_row (fresh_progress_of quiet)) bank lists
@@ -85,7 +85,7 @@ module _ (after : List ℕ) (end at : ℕ) (buffer : List ℕ) (left : ℕ) (k :
   waits = sym (ap (λ (n : ℕ). take n buffer) left_is ∙ ap (take (length rest_of)) buffer_is ∙ take-append_seam rest_of (drop (length rest_of) after))
 
 -- a turn that runs
-pub turns_on : (s : Stream) (bank : Rows) (lists after : List ℕ) (end : ℕ) → Fills s.buffer s.kept after end → end < 2 ^ 64
+pub turns_on : {n : ℕ} (s : Stream n) (bank : Rows) (lists after : List ℕ) (end : ℕ) → Fills s.buffer s.kept after end → end < 2 ^ 64
     → (w : Page) (octets : List ℕ) → w ≡ page octets 0 → (table : List Filter) (bank' : Rows) (lists' : List ℕ) (w' : Page) (p : Progress)
     → ran table bank' lists' w' p ≡ piece_run_of (length (take end after)) (take end after) (bridge s.table bank lists) w (again_of s.progress)
     → (buffer : List ℕ) (left : ℕ) → ◌≡◌ {A = Kept} (record { buffer = buffer; waiting = left }) (kept_of after p.at end)
@@ -95,7 +95,7 @@ turns_on s bank lists after end f small w octets cleared table bank' lists' w' p
     (e ∙ ap (λ (v : Page). piece_run_of (length (take end after)) (take end after) (bridge s.table bank lists) v (again_of s.progress)) cleared)
     (sym (waits after end p.at buffer left k))
 
-module _ (b : Bridge) (s : Stream) (bank : Rows) (lists after : List ℕ) (st : Stands b s bank lists) where
+module _ {n : ℕ} (b : Bridge) (s : Stream n) (bank : Rows) (lists after : List ℕ) (st : Stands b s bank lists) where
   -- nothing more is taken
   pub stands_still : (w : Page) → length after ≡ length s.buffer → take s.kept after ≡ take s.kept s.buffer → Stands b (record s { buffer = after; page = w }) bank lists
   stands_still w same stays = record {
@@ -129,7 +129,7 @@ module _ (b : Bridge) (s : Stream) (bank : Rows) (lists after : List ℕ) (st : 
           subst (RunIs piece (bridge s.table bank lists) w (again_of s.progress)) (sym e)
           (run_is_front piece (omega (arith, small, length-take end after)) (bridge s.table bank lists) w (again_of s.progress) (again_going piece s.progress (omega (arith, st.records)) (omega (arith, st.arrivals))))
 
-      pub stands_on : (octets : ℕ) → octets ≡ (s.octets + (end - left)) % 2 ^ 64 → Stands b (record { table = table; buffer = buffer; page = w'; kept = left; octets = octets; progress = p }) bank' lists'
+      pub stands_on : (octets : ℕ) → octets ≡ (s.octets + (end - left)) % 2 ^ 64 → Stands {n = n} b (record { table = table; buffer = buffer; page = w'; kept = left; octets = octets; progress = p }) bank' lists'
       stands_on octets o =
           let counts = counted_on st.answers is.answers in
           let left_length = left_is after end p.at buffer left k in
@@ -149,7 +149,7 @@ module _ (b : Bridge) (s : Stream) (bank : Rows) (lists after : List ℕ) (st : 
           }
 
 -- at the end
-module _ (bank : Rows) (lists : List ℕ) (s : Stream) (bank' : Rows) (lists' : List ℕ) (st : Stands (bridge empty_table bank lists) s bank' lists') where
+module _ {n : ℕ} (bank : Rows) (lists : List ℕ) (s : Stream n) (bank' : Rows) (lists' : List ℕ) (st : Stands (bridge empty_table bank lists) s bank' lists') where
   abbrev last : Bridge
   last = bridge s.table bank' lists'
 
