@@ -7,6 +7,7 @@ use Rattle.logic.specs.Laws.{both, never}
 use Rattle.sizes.specs.Meaning.{filter_count}
 use Rattle.record.specs.declared.Refusal.{Refusal}
 use Rattle.record.specs.declared.Refusal.TheVariants.{CutShort}
+use Rattle.record.specs.Meaning.{refusal_number_of}
 use Rattle.bank.specs.Meaning.{Rows}
 use Rattle.filter.specs.declared.Filter.{Filter}
 use Rattle.filter.specs.Meaning.{no_row}
@@ -160,7 +161,8 @@ module _ {n : ℕ} (bank : Rows) (lists : List ℕ) (s : Stream n) (bank' : Rows
   left_length = omega (arith, st.within, length-take s.kept s.buffer)
 
   -- where no refusal has stopped it, no octet is left
-  used : s.progress.refusal ≡ None → s.kept ≡ 0 → (why : Refusal) × (((take_of last left_over).answer.verdict ≡ Refused why) × (ended_by s.progress.refusal s.kept ≡ ended_of why (length left_over)))
+  used : s.progress.refusal ≡ None → s.kept ≡ 0 → (why : Refusal) × (((take_of last left_over).answer.verdict ≡ Refused why) × (ended_by s.progress.refusal s.kept ≡ ended_of (refusal_number_of why) (length left_over)))
+  unfolding ended_of
   used n e = (
     CutShort,
     (
@@ -170,7 +172,7 @@ module _ {n : ℕ} (bank : Rows) (lists : List ℕ) (s : Stream n) (bank' : Rows
   )
 
   closed : Stops last left_over s.progress → (s.progress.refusal ≡ None → s.kept ≡ 0)
-      → (why : Refusal) × (((take_of last left_over).answer.verdict ≡ Refused why) × (ended_by s.progress.refusal s.kept ≡ ended_of why (length left_over)))
+      → (why : Refusal) × (((take_of last left_over).answer.verdict ≡ Refused why) × (ended_by s.progress.refusal s.kept ≡ ended_of (refusal_number_of why) (length left_over)))
   closed (refused why e n) over = (why, (e, rw (n, ← left_length)))
   closed (full n e) over = used n (over n)
   closed (used_up n e) over = used n (over n)

@@ -2,6 +2,7 @@
 use Rattle.std.specs.Prelude.{◌≡◌, ℕ, ◌%◌, ◌^◌, ◌<◌, ◌≤◌, Option, Some, None, List, [], ◌++◌, length, take, drop}
 use Rattle.sizes.specs.Meaning.{filter_count}
 use Rattle.record.specs.declared.Refusal.{Refusal}
+use Rattle.record.specs.Meaning.{refusal_number_of}
 use Rattle.bank.specs.Meaning.{Rows}
 use Rattle.verdict.specs.Meaning.{Answer}
 use Rattle.stage.specs.Meaning.{Bridge, bridge}
@@ -41,7 +42,7 @@ pub data Turns {n : ℕ} (s : Stream n) (bank : Rows) (lists : List ℕ) : Strea
   one_more : {s' s″ : Stream n} {bank' bank″ : Rows} {lists' lists″ text : List ℕ} → Turns s bank lists s' bank' lists' text → Turned s' bank' lists' s″ bank″ lists″
       → Turns s bank lists s″ bank″ lists″ (text ++ text_of s″.page)
 
--- how it ended, where a refusal has stopped it or no octet is left
-abbrev pub ended_by : Option Refusal → ℕ → Option Refusal
-ended_by None left = None
-ended_by (Some why) left = ended_of why left
+-- the number of how it ended: the refusal that has stopped it, or none where no octet is left
+abbrev pub ended_by : Option Refusal → ℕ → ℕ
+ended_by None left = 0
+ended_by (Some why) left = ended_of (refusal_number_of why) left

@@ -23,8 +23,8 @@ use text::Page;
 pub struct Drained {
     // What has failed: the stream then did not come to its end, and the rest tells how far it came.
     pub failure: Option<Failure>,
-    // None where no octet is left.
-    pub refusal: Option<Refusal>,
+    // The number of the refusal, 0 where no octet is left.
+    pub refusal: u8,
     pub records: u64,
     // Octets of the records taken.
     pub octets: u64,
@@ -84,18 +84,20 @@ fn last_line<const N: usize>(page: &mut Page<N>, d: Drained)
 {
     match (d.failure, d.refusal) {
         (Some(_), _) => {}
-        (None, None) => page.put_end(d.records),
-        (None, Some(why)) => page.put_refused(u8::from(why), d.octets),
+        (None, 0) => page.put_end(d.records),
+        (None, number) => page.put_refused(number, d.octets),
     }
 }
 
-// A body cut short, where no octet is left, is no refusal but the end.
-fn ended(refusal: Option<Refusal>, kept: usize) -> Option<Refusal>
+// The number of the refusal. A body cut short, where no octet is left, is no refusal but the end.
+#[tactic(auto, unfolding(crate::specs::Meaning::ended_of))]
+fn ended(refusal: Option<Refusal>, kept: usize) -> u8
     ensures { result ≡ ended_by refusal kept }
 {
     match refusal {
-        Some(Refusal::CutShort) if kept == 0 => None,
-        _ => refusal,
+        None => 0,
+        Some(Refusal::CutShort) if kept == 0 => 0,
+        Some(why) => u8::from(why),
     }
 }
 
