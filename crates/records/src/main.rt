@@ -101,6 +101,28 @@ impl Printer {
         self.page.clear();
         written
     }
+
+    // The last line where a record is refused, and all that waits is written.
+    fn print_last<W: Write>(
+        &mut self,
+        output: &mut W,
+        end: Result<(), Stop>,
+    ) -> Result<(), Failure> {
+        let offset = self.offset;
+        put_last(&mut self.page, end, offset);
+        let written = pieces::write(output, self.page.text());
+        self.page.clear();
+        written
+    }
+}
+
+// The last line where a record is refused.
+fn put_last<const N: usize>(page: &mut Page<N>, end: Result<(), Stop>, offset: u64)
+    ensures { length page.new.octets ≡ length page.old.octets }
+{
+    if let Err(Stop::Refused(why)) = end {
+        page.put_refused(u8::from(why), offset);
+    }
 }
 
 // All of `input`, and the last line where a record is refused.
@@ -111,15 +133,7 @@ fn print_all<R: Read, W: Write>(input: &mut R, output: &mut W) -> Result<(), Fai
         started: false,
     };
     let end = printer.print_pieces(input, output);
-    let Printer {
-        mut page,
-        offset,
-        started: _,
-    } = printer;
-    if let Err(Stop::Refused(why)) = end {
-        page.put_refused(u8::from(why), offset);
-    }
-    pieces::write(output, page.text())?;
+    printer.print_last(output, end)?;
     match end {
         Err(Stop::Failed(failure)) => Err(failure),
         _ => Ok(()),

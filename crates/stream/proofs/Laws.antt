@@ -7,6 +7,7 @@ use Rattle.logic.specs.Laws.{both, never}
 use Rattle.sizes.specs.Meaning.{filter_count}
 use Rattle.record.specs.declared.Refusal.{Refusal}
 use Rattle.record.specs.declared.Refusal.TheVariants.{CutShort}
+use Rattle.record.specs.Meaning.{refusal_number_of}
 use Rattle.bank.specs.Meaning.{Rows}
 use Rattle.filter.specs.declared.Filter.{Filter}
 use Rattle.filter.specs.Meaning.{no_row}
@@ -56,8 +57,8 @@ well (Ok false) e = refl
 well (Err failure) e = absurd cc
 
 -- before the first piece
-module _ (bank : Rows) (lists buffer : List ℕ) (w : Page) where
-  abbrev begun : Filter → Progress → Stream
+module _ {n : ℕ} (bank : Rows) (lists buffer : List ℕ) (w : Page) where
+  abbrev begun : Filter → Progress → Stream n
   begun row p = record { table = repeated row filter_count; buffer = buffer; page = w; kept = 0; octets = 0; progress = p }
 
   first : (quiet : Bool) → Stands (bridge empty_table bank lists) (begun no_row (fresh_progress_of quiet)) bank lists
@@ -85,7 +86,7 @@ module _ (after : List ℕ) (end at : ℕ) (buffer : List ℕ) (left : ℕ) (k :
   waits = sym (ap (λ (n : ℕ). take n buffer) left_is ∙ ap (take (length rest_of)) buffer_is ∙ take-append_seam rest_of (drop (length rest_of) after))
 
 -- a turn that runs
-pub turns_on : (s : Stream) (bank : Rows) (lists after : List ℕ) (end : ℕ) → Fills s.buffer s.kept after end → end < 2 ^ 64
+pub turns_on : {n : ℕ} (s : Stream n) (bank : Rows) (lists after : List ℕ) (end : ℕ) → Fills s.buffer s.kept after end → end < 2 ^ 64
     → (w : Page) (octets : List ℕ) → w ≡ page octets 0 → (table : List Filter) (bank' : Rows) (lists' : List ℕ) (w' : Page) (p : Progress)
     → ran table bank' lists' w' p ≡ piece_run_of (length (take end after)) (take end after) (bridge s.table bank lists) w (again_of s.progress)
     → (buffer : List ℕ) (left : ℕ) → ◌≡◌ {A = Kept} (record { buffer = buffer; waiting = left }) (kept_of after p.at end)
@@ -95,7 +96,7 @@ turns_on s bank lists after end f small w octets cleared table bank' lists' w' p
     (e ∙ ap (λ (v : Page). piece_run_of (length (take end after)) (take end after) (bridge s.table bank lists) v (again_of s.progress)) cleared)
     (sym (waits after end p.at buffer left k))
 
-module _ (b : Bridge) (s : Stream) (bank : Rows) (lists after : List ℕ) (st : Stands b s bank lists) where
+module _ {n : ℕ} (b : Bridge) (s : Stream n) (bank : Rows) (lists after : List ℕ) (st : Stands b s bank lists) where
   -- nothing more is taken
   pub stands_still : (w : Page) → length after ≡ length s.buffer → take s.kept after ≡ take s.kept s.buffer → Stands b (record s { buffer = after; page = w }) bank lists
   stands_still w same stays = record {
@@ -129,7 +130,7 @@ module _ (b : Bridge) (s : Stream) (bank : Rows) (lists after : List ℕ) (st : 
           subst (RunIs piece (bridge s.table bank lists) w (again_of s.progress)) (sym e)
           (run_is_front piece (omega (arith, small, length-take end after)) (bridge s.table bank lists) w (again_of s.progress) (again_going piece s.progress (omega (arith, st.records)) (omega (arith, st.arrivals))))
 
-      pub stands_on : (octets : ℕ) → octets ≡ (s.octets + (end - left)) % 2 ^ 64 → Stands b (record { table = table; buffer = buffer; page = w'; kept = left; octets = octets; progress = p }) bank' lists'
+      pub stands_on : (octets : ℕ) → octets ≡ (s.octets + (end - left)) % 2 ^ 64 → Stands {n = n} b (record { table = table; buffer = buffer; page = w'; kept = left; octets = octets; progress = p }) bank' lists'
       stands_on octets o =
           let counts = counted_on st.answers is.answers in
           let left_length = left_is after end p.at buffer left k in
@@ -149,7 +150,7 @@ module _ (b : Bridge) (s : Stream) (bank : Rows) (lists after : List ℕ) (st : 
           }
 
 -- at the end
-module _ (bank : Rows) (lists : List ℕ) (s : Stream) (bank' : Rows) (lists' : List ℕ) (st : Stands (bridge empty_table bank lists) s bank' lists') where
+module _ {n : ℕ} (bank : Rows) (lists : List ℕ) (s : Stream n) (bank' : Rows) (lists' : List ℕ) (st : Stands (bridge empty_table bank lists) s bank' lists') where
   abbrev last : Bridge
   last = bridge s.table bank' lists'
 
@@ -160,7 +161,8 @@ module _ (bank : Rows) (lists : List ℕ) (s : Stream) (bank' : Rows) (lists' : 
   left_length = omega (arith, st.within, length-take s.kept s.buffer)
 
   -- where no refusal has stopped it, no octet is left
-  used : s.progress.refusal ≡ None → s.kept ≡ 0 → (why : Refusal) × (((take_of last left_over).answer.verdict ≡ Refused why) × (ended_by s.progress.refusal s.kept ≡ ended_of why (length left_over)))
+  used : s.progress.refusal ≡ None → s.kept ≡ 0 → (why : Refusal) × (((take_of last left_over).answer.verdict ≡ Refused why) × (ended_by s.progress.refusal s.kept ≡ ended_of (refusal_number_of why) (length left_over)))
+  unfolding ended_of
   used n e = (
     CutShort,
     (
@@ -170,7 +172,7 @@ module _ (bank : Rows) (lists : List ℕ) (s : Stream) (bank' : Rows) (lists' : 
   )
 
   closed : Stops last left_over s.progress → (s.progress.refusal ≡ None → s.kept ≡ 0)
-      → (why : Refusal) × (((take_of last left_over).answer.verdict ≡ Refused why) × (ended_by s.progress.refusal s.kept ≡ ended_of why (length left_over)))
+      → (why : Refusal) × (((take_of last left_over).answer.verdict ≡ Refused why) × (ended_by s.progress.refusal s.kept ≡ ended_of (refusal_number_of why) (length left_over)))
   closed (refused why e n) over = (why, (e, rw (n, ← left_length)))
   closed (full n e) over = used n (over n)
   closed (used_up n e) over = used n (over n)

@@ -1,8 +1,7 @@
 -- What a stream of records from standard input comes to, and its last line.
-use Rattle.std.specs.Prelude.{◌≡◌, ℕ, ◌%◌, ◌^◌, Bool, true, false, cond, Option, Some, None, Result, Ok, Err, List, [], length, ◌==◌}
+use Rattle.std.specs.Prelude.{◌≡◌, ℕ, ◌%◌, ◌^◌, Bool, true, false, cond, Option, Some, None, Result, Ok, Err, List, [], length, ◌==◌, ◌&&◌}
 use Rattle.sizes.specs.Meaning.{filter_count}
 use Rattle.record.specs.declared.Refusal.{Refusal}
-use Rattle.record.specs.declared.Refusal.TheVariants.{CutShort}
 use Rattle.record.specs.Meaning.{refusal_number_of}
 use Rattle.bank.specs.Meaning.{Rows}
 use Rattle.filter.specs.declared.Filter.{Filter}
@@ -20,10 +19,9 @@ use Rattle.stream.specs.declared.Drained.{Drained}
 abbrev pub empty_table : List Filter
 empty_table = repeated no_row filter_count
 
--- a body cut short, where no octet is left, is no refusal but the end
-abbrev pub ended_of : Refusal → ℕ → Option Refusal
-ended_of CutShort left = cond (left == 0) None (Some CutShort)
-ended_of why left = Some why
+-- a body cut short, where no octet is left, is no refusal but the end: 0
+unfoldable pub ended_of : ℕ → ℕ → ℕ
+ended_of refusal left = cond (refusal == 1 && left == 0) 0 refusal
 
 -- a stream that goes on after all its turns is given up as one that cannot be read
 abbrev pub failure_of : Result Bool Failure → Option Failure
@@ -42,7 +40,7 @@ pub record Drains (bank : Rows) (lists : List ℕ) (bank' : Rows) (lists' : List
   pub records : d.records ≡ length answers % 2 ^ 64
   pub octets : d.octets ≡ used_in answers % 2 ^ 64
   pub whole : d.failure ≡ None
-      → (why : Refusal) × (Input (bridge empty_table bank lists) input answers (bridge table bank' lists') rest why × (d.refusal ≡ ended_of why (length rest)))
+      → (why : Refusal) × (Input (bridge empty_table bank lists) input answers (bridge table bank' lists') rest why × (d.refusal ≡ ended_of (refusal_number_of why) (length rest)))
 
 -- a report leaves the end as it was, or says that it could not be written
 pub data Reported (d : Drained) : Drained → Type 0 where
@@ -50,12 +48,8 @@ pub data Reported (d : Drained) : Drained → Type 0 where
   unwritten : d.failure ≡ None → Reported d (record { failure = Some Output; refusal = d.refusal; records = d.records; octets = d.octets })
 
 -- the records taken, or the refusal and the octets taken before it
-abbrev pub end_by : Option Refusal → Drained → List ℕ
-end_by None d = end_line_of d.records
-end_by (Some why) d = refused_line_of (refusal_number_of why) d.octets
-
 abbrev pub end_of : Drained → List ℕ
-end_of d = end_by d.refusal d
+end_of d = cond (d.refusal == 0) (end_line_of d.records) (refused_line_of d.refusal d.octets)
 
 -- no line where something has failed
 abbrev pub line_by : Option Failure → Drained → List ℕ

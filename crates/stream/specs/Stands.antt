@@ -2,6 +2,7 @@
 use Rattle.std.specs.Prelude.{◌≡◌, ℕ, ◌%◌, ◌^◌, ◌<◌, ◌≤◌, Option, Some, None, List, [], ◌++◌, length, take, drop}
 use Rattle.sizes.specs.Meaning.{filter_count}
 use Rattle.record.specs.declared.Refusal.{Refusal}
+use Rattle.record.specs.Meaning.{refusal_number_of}
 use Rattle.bank.specs.Meaning.{Rows}
 use Rattle.verdict.specs.Meaning.{Answer}
 use Rattle.stage.specs.Meaning.{Bridge, bridge}
@@ -12,7 +13,7 @@ use Rattle.promises.specs.Pieces.Meaning.{Stops}
 use Rattle.stream.specs.declared.Stream.{Stream}
 use Rattle.stream.specs.Meaning.{ended_of}
 
-pub record Stands (b : Bridge) (s : Stream) (bank : Rows) (lists : List ℕ) : Type 0 where
+pub record Stands {n : ℕ} (b : Bridge) (s : Stream n) (bank : Rows) (lists : List ℕ) : Type 0 where
   pub input : List ℕ
   pub answers : List Answer
   pub front : Front b input answers (bridge s.table bank lists) (take s.kept s.buffer)
@@ -29,19 +30,19 @@ text_of w = take w.filled w.octets
 
 -- what a turn does: nothing is taken, and the page is empty; or what waited, with what was read behind it, is run from the front of an empty page, as each run of
 -- `RunsOn` is, and what that leaves waits
-pub data Turned (s : Stream) (bank : Rows) (lists : List ℕ) (s' : Stream) (bank' : Rows) (lists' : List ℕ) : Type 0 where
+pub data Turned {n : ℕ} (s : Stream n) (bank : Rows) (lists : List ℕ) (s' : Stream n) (bank' : Rows) (lists' : List ℕ) : Type 0 where
   idle : s'.page.filled ≡ 0 → s'.progress ≡ s.progress → bridge s'.table bank' lists' ≡ bridge s.table bank lists → Turned s bank lists s' bank' lists'
   with_run : (octets piece read : List ℕ) → piece ≡ take s.kept s.buffer ++ read → length piece < 2 ^ 64
       → ran s'.table bank' lists' s'.page s'.progress ≡ piece_run_of (length piece) piece (bridge s.table bank lists) (page octets 0) (again_of s.progress)
       → take s'.kept s'.buffer ≡ drop s'.progress.at piece → Turned s bank lists s' bank' lists'
 
 -- turn after turn, and the texts of their pages one behind the other
-pub data Turns (s : Stream) (bank : Rows) (lists : List ℕ) : Stream → Rows → List ℕ → List ℕ → Type 0 where
+pub data Turns {n : ℕ} (s : Stream n) (bank : Rows) (lists : List ℕ) : Stream n → Rows → List ℕ → List ℕ → Type 0 where
   none : Turns s bank lists s bank lists []
-  one_more : {s' s″ : Stream} {bank' bank″ : Rows} {lists' lists″ text : List ℕ} → Turns s bank lists s' bank' lists' text → Turned s' bank' lists' s″ bank″ lists″
+  one_more : {s' s″ : Stream n} {bank' bank″ : Rows} {lists' lists″ text : List ℕ} → Turns s bank lists s' bank' lists' text → Turned s' bank' lists' s″ bank″ lists″
       → Turns s bank lists s″ bank″ lists″ (text ++ text_of s″.page)
 
--- how it ended, where a refusal has stopped it or no octet is left
-abbrev pub ended_by : Option Refusal → ℕ → Option Refusal
-ended_by None left = None
-ended_by (Some why) left = ended_of why left
+-- the number of how it ended: the refusal that has stopped it, or none where no octet is left
+abbrev pub ended_by : Option Refusal → ℕ → ℕ
+ended_by None left = 0
+ended_by (Some why) left = ended_of (refusal_number_of why) left

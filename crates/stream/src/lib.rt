@@ -2,7 +2,7 @@
 // A record that the end of a piece cuts waits at the front of the buffer for its rest.
 #![tactic(auto)]
 
-ghost use Rattle.std.specs.Prelude.{◌≡◌, List, ℕ, false, IfErr, OnOk};
+ghost use Rattle.std.specs.Prelude.{◌≡◌, ◌^◌, ◌<◌, List, ℕ, false, IfErr, OnOk};
 ghost use Rattle.std.specs.Io.KnownBytes.{Appends};
 ghost use Rattle.bank.specs.Meaning.{rows_of};
 ghost use Rattle.stage.specs.Meaning.{Bridge};
@@ -23,8 +23,8 @@ use text::Page;
 pub struct Drained {
     // What has failed: the stream then did not come to its end, and the rest tells how far it came.
     pub failure: Option<Failure>,
-    // None where no octet is left.
-    pub refusal: Option<Refusal>,
+    // The number of the refusal, 0 where no octet is left.
+    pub refusal: u8,
     pub records: u64,
     // Octets of the records taken.
     pub octets: u64,
@@ -41,20 +41,11 @@ pub fn drain<R: Read, W: Write>(
 ) -> Drained
     ensures { Drains (rows_of bank.old) lists.old (rows_of bank.new) lists.new result }
 {
-    let mut s = Stream {
-        table: [Filter::default(); sizes::FILTERS],
-        buffer: [0; 65536],
-        page: Page::new(),
-        kept: 0,
-        octets: 0,
-        progress: run::fresh(quiet),
-    };
-    let end = s.pieces(input, output, bank, lists);
-    Drained {
-        failure: last_failure(end),
-        refusal: ended(s.progress.refusal, s.kept),
-        records: s.progress.records,
-        octets: s.octets,
+    // Where no line is written, a page with room for one line will do: a run goes on while that is left.
+    if quiet {
+        Stream::<{ text::LINE }>::drain(input, output, bank, lists, quiet)
+    } else {
+        Stream::<204800>::drain(input, output, bank, lists, quiet)
     }
 }
 
@@ -93,18 +84,20 @@ fn last_line<const N: usize>(page: &mut Page<N>, d: Drained)
 {
     match (d.failure, d.refusal) {
         (Some(_), _) => {}
-        (None, None) => page.put_end(d.records),
-        (None, Some(why)) => page.put_refused(u8::from(why), d.octets),
+        (None, 0) => page.put_end(d.records),
+        (None, number) => page.put_refused(number, d.octets),
     }
 }
 
-// A body cut short, where no octet is left, is no refusal but the end.
-fn ended(refusal: Option<Refusal>, kept: usize) -> Option<Refusal>
+// The number of the refusal. A body cut short, where no octet is left, is no refusal but the end.
+#[tactic(auto, unfolding(crate::specs::Meaning::ended_of))]
+fn ended(refusal: Option<Refusal>, kept: usize) -> u8
     ensures { result ≡ ended_by refusal kept }
 {
     match refusal {
-        Some(Refusal::CutShort) if kept == 0 => None,
-        _ => refusal,
+        None => 0,
+        Some(Refusal::CutShort) if kept == 0 => 0,
+        Some(why) => u8::from(why),
     }
 }
 
@@ -121,10 +114,10 @@ fn last_failure(end: Result<bool, Failure>) -> Option<Failure>
 
 // A stream on its way.
 #[derive(Drop)]
-struct Stream {
+struct Stream<const N: usize> {
     table: [Filter; sizes::FILTERS],
     buffer: [u8; 65536],
-    page: Page<204800>,
+    page: Page<N>,
     // Octets at the front of the buffer that are not taken yet, and those that were taken before them.
     // Kept: a buffer with its count beside, as `pieces::fill` and `keep` speak of them (`Filled`, `kept_of`).
     kept: usize,
@@ -132,7 +125,35 @@ struct Stream {
     progress: Progress,
 }
 
-impl Stream {
+impl<const N: usize> Stream<N> {
+    // From the first piece to the last.
+    fn drain<R: Read, W: Write>(
+        input: &mut R,
+        output: &mut W,
+        bank: &mut Bank,
+        lists: &mut Lists,
+        quiet: bool,
+    ) -> Drained
+        requires { N < 2 ^ 32 }
+        ensures { Drains (rows_of bank.old) lists.old (rows_of bank.new) lists.new result }
+    {
+        let mut s = Stream::<N> {
+            table: [Filter::default(); sizes::FILTERS],
+            buffer: [0; 65536],
+            page: Page::new(),
+            kept: 0,
+            octets: 0,
+            progress: run::fresh(quiet),
+        };
+        let end = s.pieces(input, output, bank, lists);
+        Drained {
+            failure: last_failure(end),
+            refusal: ended(s.progress.refusal, s.kept),
+            records: s.progress.records,
+            octets: s.octets,
+        }
+    }
+
     // Turn by turn. Answers whether the stream still goes on after all its turns.
     fn pieces<R: Read, W: Write>(
         &mut self,

@@ -4,7 +4,7 @@ use Rattle.bank.specs.Meaning.{rows_of}
 use Rattle.stage.specs.Meaning.{bridge}
 use Rattle.stream.specs.Meaning.{empty_table}
 use Rattle.stream.proofs.Laws.{stands_first, stands_drains, well}
-use Rattle.stream.proofs.drain.Goals as goal
+use Rattle.stream.proofs.Stream.drain.Goals as goal
 
 pub returns : goal.returns
 returns g c =
