@@ -99,11 +99,7 @@ pub fn put_line<const N: usize>(page: &mut Page<N>, r: Record)
                 r.msdu as u64,
             ],
         ),
-        Record::Clear(r) => put_form(
-            page,
-            b"clear flag=N id=N\n",
-            &[r.flag as u64, r.id as u64],
-        ),
+        Record::Clear(r) => put_form(page, b"clear flag=N id=N\n", &[r.flag as u64, r.id as u64]),
     }
 }
 
