@@ -1,6 +1,6 @@
 -- A run over a piece of input: one record after another, up to a refusal or to where the page is nearly full.
-use Rattle.std.specs.Prelude.{ℕ, zero, suc, ◌+◌, ◌%◌, ◌^◌, Bool, true, false, cond, Some, None, List, length, drop, nat_le}
-use Rattle.record.specs.declared.Refusal.{Refusal}
+use Rattle.std.specs.Prelude.{ℕ, zero, suc, ◌+◌, ◌%◌, ◌^◌, Bool, true, false, cond, List, length, drop, nat_le}
+use Rattle.record.specs.Meaning.{refusal_number_of}
 use Rattle.bank.specs.Meaning.{Rows}
 use Rattle.filter.specs.declared.Filter.{Filter}
 use Rattle.verdict.specs.Meaning.{Verdict, Refused, Taken, Passed, Dropped, Answer}
@@ -12,11 +12,11 @@ use Rattle.run.specs.declared.Progress.{Progress}
 
 -- before the first piece
 abbrev pub fresh_progress_of : Bool → Progress
-fresh_progress_of quiet = record { at = 0; records = 0; arrivals = 0; refusal = None; quiet = quiet; more = true }
+fresh_progress_of quiet = record { at = 0; records = 0; arrivals = 0; refusal = 0; quiet = quiet; more = true }
 
 -- before another piece
 abbrev pub again_of : Progress → Progress
-again_of p = record { at = 0; records = p.records; arrivals = p.arrivals; refusal = None; quiet = p.quiet; more = true }
+again_of p = record { at = 0; records = p.records; arrivals = p.arrivals; refusal = 0; quiet = p.quiet; more = true }
 
 -- there is room for a line
 abbrev pub room_of : Page → Bool
@@ -24,11 +24,11 @@ room_of w = nat_le (w.filled + line_room) (length w.octets)
 
 -- one record more, of so many octets
 abbrev pub advanced_of : Progress → ℕ → ℕ → Bool → Progress
-advanced_of p used arrivals more = record { at = (p.at + used) % 2 ^ 64; records = (p.records + 1) % 2 ^ 64; arrivals = arrivals; refusal = None; quiet = p.quiet; more = more }
+advanced_of p used arrivals more = record { at = (p.at + used) % 2 ^ 64; records = (p.records + 1) % 2 ^ 64; arrivals = arrivals; refusal = 0; quiet = p.quiet; more = more }
 
--- a refusal
-abbrev pub stopped_of : Progress → Refusal → Progress
-stopped_of p why = record { at = p.at; records = p.records; arrivals = p.arrivals; refusal = Some why; quiet = p.quiet; more = false }
+-- a refusal of that number
+abbrev pub stopped_of : Progress → ℕ → Progress
+stopped_of p n = record { at = p.at; records = p.records; arrivals = p.arrivals; refusal = n; quiet = p.quiet; more = false }
 
 -- ---- what is told of an answer
 
@@ -52,7 +52,7 @@ abbrev pub next_of : Progress → ℕ
 next_of p = (p.arrivals + 1) % 2 ^ 64
 
 unfoldable pub printed_by : Page → Progress → ℕ → Verdict → Printed
-printed_by w p used (Refused why) = printed w (stopped_of p why)
+printed_by w p used (Refused why) = printed w (stopped_of p (refusal_number_of why))
 printed_by w p used Taken = moved_of p used p.arrivals w
 printed_by w p used (Passed v) = moved_of p used (next_of p) (said_of p w (pass_line_of (next_of p) v))
 printed_by w p used (Dropped d) = moved_of p used (next_of p) (said_of p w (drop_line_of (next_of p) d))

@@ -21,8 +21,9 @@ pub struct Progress {
     // Records and arrivals taken so far, of earlier pieces too.
     pub records: u64,
     pub arrivals: u64,
-    // The refusal that the run has met.
-    pub refusal: Option<Refusal>,
+    // The number of the refusal that the run has met, 0 for none.
+    // Kept: a number, as `run` and `again` take any.
+    pub refusal: u8,
     // Whether no line is printed for an arrival.
     pub quiet: bool,
     // Whether the run goes on: no refusal yet, and room for another line. Kept: two questions, since a full page is no refusal (`Stops`).
@@ -38,7 +39,7 @@ pub fn fresh(quiet: bool) -> Progress
         at: 0,
         records: 0,
         arrivals: 0,
-        refusal: None,
+        refusal: 0,
         quiet,
         more: true,
     }
@@ -51,7 +52,7 @@ pub fn again(p: Progress) -> Progress
 {
     Progress {
         at: 0,
-        refusal: None,
+        refusal: 0,
         more: true,
         ..p
     }
@@ -97,7 +98,7 @@ fn tell<const N: usize>(page: &mut Page<N>, p: Progress, answer: Result<Taken, R
         Ok(taken) => taken,
         Err(why) => {
             return Progress {
-                refusal: Some(why),
+                refusal: u8::from(why),
                 more: false,
                 ..p
             };
@@ -121,7 +122,7 @@ fn advanced<const N: usize>(p: Progress, used: usize, arrivals: u64, page: &Page
         at: p.at.wrapping_add(used),
         records: p.records.wrapping_add(1),
         arrivals,
-        refusal: None,
+        refusal: 0,
         more: page.room() >= text::LINE,
         ..p
     }

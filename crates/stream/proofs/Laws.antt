@@ -1,7 +1,7 @@
 -- A piece takes a stream from one place to the next, and at its end the stream is what `Drains` says.
-use Rattle.std.specs.Prelude.{◌≡◌, ℕ, ◌+◌, ◌-◌, ◌%◌, ◌^◌, ◌<◌, Bool, true, false, ◌&&◌, ◌||◌, Option, Some, None, Result, Ok, Err, is_some, is_ok, List, [], ◌++◌, length, take, drop, ◌==◌, refl}
+use Rattle.std.specs.Prelude.{◌≡◌, ℕ, ◌+◌, ◌-◌, ◌%◌, ◌^◌, ◌<◌, Bool, true, false, ◌&&◌, ◌||◌, Option, Some, None, Result, Ok, Err, is_some, is_ok, List, [], ◌++◌, length, take, drop, ◌==◌, nat_le, nat_lt, refl}
 use Rattle.std.specs.Result.{result_err}
-use Rattle.std.proofs.Common.{sym, ap, subst, ◌∙◌, arith, length-take, length-drop, length-append, eqb-true}
+use Rattle.std.proofs.Common.{sym, ap, subst, ◌∙◌, arith, length-take, length-drop, length-append, eqb-true, le-ltb, leb-false}
 use Rattle.std.proofs.Math.Seq.{take-append_seam}
 use Rattle.logic.specs.Laws.{both, never}
 use Rattle.sizes.specs.Meaning.{filter_count}
@@ -28,22 +28,18 @@ use Rattle.promises.proofs.Pieces.UsedUp.{front_length, no_octet_left}
 use Rattle.stream.specs.declared.Stream.{Stream}
 use Rattle.stream.specs.declared.Drained.{Drained}
 use Rattle.stream.specs.Meaning.{empty_table, ended_of, failure_of, Drains}
-use Rattle.stream.specs.Stands.{Stands, Turned, with_run, ended_by}
+use Rattle.stream.specs.Stands.{Stands, Turned, with_run}
 
 -- the tests of the code: octets were asked for and none came; and what is written and no refusal but a body cut short lets a stream go on
-pub asked_empty : (refusal : Option Refusal) (kept : ℕ) (z : Bool) → ((is_some refusal || kept == 0) && z) ≡ true → refusal ≡ None → kept ≡ 0
-asked_empty None kept z e n = eqb-true kept 0 (both (kept == 0) z e).0
-asked_empty (Some why) kept z e n = absurd cc
+pub asked_empty : (refusal kept : ℕ) (z : Bool) → ((nat_lt 0 refusal || kept == 0) && z) ≡ true → refusal ≡ 0 → kept ≡ 0
+asked_empty refusal kept z e n = eqb-true kept 0 (right (both (nat_lt 0 refusal || kept == 0) z e).0)
+  where
+    right : (nat_lt 0 refusal || kept == 0) ≡ true → (kept == 0) ≡ true
+    right h = sym (ap (λ (t : Bool). t || kept == 0) (le-ltb 0 refusal (omega (arith, n)))) ∙ h
 
-abbrev pub goes_on : Option Refusal → Bool
-goes_on None = true
-goes_on (Some CutShort) = true
-goes_on (Some why) = false
-
-pub refused_above : (written : Result (Unit {0}) Failure) (refusal : Option Refusal) (left : ℕ) (f : Option Failure)
-    → f ≡ result_err written → (is_ok written && goes_on refusal) ≡ false → f ≡ None → refusal ≡ None → left ≡ 0
-refused_above (Ok u) None left f e m n z = never (sym m)
-refused_above (Ok u) (Some why) left f e m n z = absurd cc
+pub refused_above : (written : Result (Unit {0}) Failure) (refusal left : ℕ) (f : Option Failure)
+    → f ≡ result_err written → (is_ok written && nat_le refusal 1) ≡ false → f ≡ None → refusal ≡ 0 → left ≡ 0
+refused_above (Ok u) refusal left f e m n z = absurd (omega (arith, leb-false refusal 1 m, z))
 refused_above (Err failure) refusal left f e m n z = absurd cc
 
 pub none_by : {T : Type 0} (o : Option T) → is_some o ≡ false → o ≡ None
@@ -161,7 +157,7 @@ module _ {n : ℕ} (bank : Rows) (lists : List ℕ) (s : Stream n) (bank' : Rows
   left_length = omega (arith, st.within, length-take s.kept s.buffer)
 
   -- where no refusal has stopped it, no octet is left
-  used : s.progress.refusal ≡ None → s.kept ≡ 0 → (why : Refusal) × (((take_of last left_over).answer.verdict ≡ Refused why) × (ended_by s.progress.refusal s.kept ≡ ended_of (refusal_number_of why) (length left_over)))
+  used : s.progress.refusal ≡ 0 → s.kept ≡ 0 → (why : Refusal) × (((take_of last left_over).answer.verdict ≡ Refused why) × (ended_of s.progress.refusal s.kept ≡ ended_of (refusal_number_of why) (length left_over)))
   unfolding ended_of
   used n e = (
     CutShort,
@@ -171,13 +167,13 @@ module _ {n : ℕ} (bank : Rows) (lists : List ℕ) (s : Stream n) (bank' : Rows
     ),
   )
 
-  closed : Stops last left_over s.progress → (s.progress.refusal ≡ None → s.kept ≡ 0)
-      → (why : Refusal) × (((take_of last left_over).answer.verdict ≡ Refused why) × (ended_by s.progress.refusal s.kept ≡ ended_of (refusal_number_of why) (length left_over)))
+  closed : Stops last left_over s.progress → (s.progress.refusal ≡ 0 → s.kept ≡ 0)
+      → (why : Refusal) × (((take_of last left_over).answer.verdict ≡ Refused why) × (ended_of s.progress.refusal s.kept ≡ ended_of (refusal_number_of why) (length left_over)))
   closed (refused why e n) over = (why, (e, rw (n, ← left_length)))
   closed (full n e) over = used n (over n)
   closed (used_up n e) over = used n (over n)
 
-  pub stands_drains : (d : Drained) → d.refusal ≡ ended_by s.progress.refusal s.kept → d.records ≡ s.progress.records → d.octets ≡ s.octets → (d.failure ≡ None → s.progress.refusal ≡ None → s.kept ≡ 0)
+  pub stands_drains : (d : Drained) → d.refusal ≡ ended_of s.progress.refusal s.kept → d.records ≡ s.progress.records → d.octets ≡ s.octets → (d.failure ≡ None → s.progress.refusal ≡ 0 → s.kept ≡ 0)
       → Drains bank lists bank' lists' d
   stands_drains d r records octets over = record {
     input = st.input;

@@ -1,8 +1,6 @@
 -- Where a stream stands between two pieces, from the first bridge on: what was read is taken but for the octets that wait at the front of the buffer.
-use Rattle.std.specs.Prelude.{◌≡◌, ℕ, ◌%◌, ◌^◌, ◌<◌, ◌≤◌, Option, Some, None, List, [], ◌++◌, length, take, drop}
+use Rattle.std.specs.Prelude.{◌≡◌, ℕ, ◌%◌, ◌^◌, ◌<◌, ◌≤◌, List, [], ◌++◌, length, take, drop}
 use Rattle.sizes.specs.Meaning.{filter_count}
-use Rattle.record.specs.declared.Refusal.{Refusal}
-use Rattle.record.specs.Meaning.{refusal_number_of}
 use Rattle.bank.specs.Meaning.{Rows}
 use Rattle.verdict.specs.Meaning.{Answer}
 use Rattle.stage.specs.Meaning.{Bridge, bridge}
@@ -11,7 +9,6 @@ use Rattle.run.specs.Meaning.{again_of, ran, piece_run_of}
 use Rattle.run.specs.Input.Meaning.{Front, used_in, arrivals_in}
 use Rattle.promises.specs.Pieces.Meaning.{Stops}
 use Rattle.stream.specs.declared.Stream.{Stream}
-use Rattle.stream.specs.Meaning.{ended_of}
 
 pub record Stands {n : ℕ} (b : Bridge) (s : Stream n) (bank : Rows) (lists : List ℕ) : Type 0 where
   pub input : List ℕ
@@ -41,8 +38,3 @@ pub data Turns {n : ℕ} (s : Stream n) (bank : Rows) (lists : List ℕ) : Strea
   none : Turns s bank lists s bank lists []
   one_more : {s' s″ : Stream n} {bank' bank″ : Rows} {lists' lists″ text : List ℕ} → Turns s bank lists s' bank' lists' text → Turned s' bank' lists' s″ bank″ lists″
       → Turns s bank lists s″ bank″ lists″ (text ++ text_of s″.page)
-
--- the number of how it ended: the refusal that has stopped it, or none where no octet is left
-abbrev pub ended_by : Option Refusal → ℕ → ℕ
-ended_by None left = 0
-ended_by (Some why) left = ended_of (refusal_number_of why) left

@@ -7,13 +7,12 @@ ghost use Rattle.std.specs.Io.KnownBytes.{Appends};
 ghost use Rattle.bank.specs.Meaning.{rows_of};
 ghost use Rattle.stage.specs.Meaning.{Bridge};
 ghost use Rattle.text.specs.Meaning.{written};
-ghost use Rattle.stream.specs.Meaning.{Drains, Reported, failure_of, last_line_of};
-ghost use Rattle.stream.specs.Stands.{Stands, Turned, Turns, ended_by, text_of};
+ghost use Rattle.stream.specs.Meaning.{Drains, Reported, ended_of, failure_of, last_line_of};
+ghost use Rattle.stream.specs.Stands.{Stands, Turned, Turns, text_of};
 
 use bank::{Bank, Lists};
 use filter::Filter;
 use pieces::Failure;
-use record::Refusal;
 use run::Progress;
 use std::io::{Read, Write};
 use text::Page;
@@ -89,15 +88,15 @@ fn last_line<const N: usize>(page: &mut Page<N>, d: Drained)
     }
 }
 
-// The number of the refusal. A body cut short, where no octet is left, is no refusal but the end.
+// A body cut short, where no octet is left, is no refusal but the end.
 #[tactic(auto, unfolding(crate::specs::Meaning::ended_of))]
-fn ended(refusal: Option<Refusal>, kept: usize) -> u8
-    ensures { result ≡ ended_by refusal kept }
+fn ended(refusal: u8, kept: usize) -> u8
+    ensures { result ≡ ended_of refusal kept }
 {
-    match refusal {
-        None => 0,
-        Some(Refusal::CutShort) if kept == 0 => 0,
-        Some(why) => u8::from(why),
+    if refusal == 1 && kept == 0 {
+        0
+    } else {
+        refusal
     }
 }
 
@@ -163,7 +162,7 @@ impl<const N: usize> Stream<N> {
         lists: &mut Lists,
     ) -> Result<bool, Failure>
         ensures stands { (b : Bridge) → Stands b self.old (rows_of bank.old) lists.old → Stands b self.new (rows_of bank.new) lists.new }
-        ensures over { result ≡ Ok false → self.new.progress.refusal ≡ None → self.new.kept ≡ 0 }
+        ensures over { result ≡ Ok false → self.new.progress.refusal ≡ 0 → self.new.kept ≡ 0 }
         ensures told { OnOk result ((text : List ℕ) × (Turns self.old (rows_of bank.old) lists.old self.new (rows_of bank.new) lists.new text × Appends (W.contents output.old) (W.contents output.new) text)) }
     {
         for _ in 0..u64::MAX {
@@ -183,7 +182,7 @@ impl<const N: usize> Stream<N> {
         lists: &mut Lists,
     ) -> Result<bool, Failure>
         ensures stands { (b : Bridge) → Stands b self.old (rows_of bank.old) lists.old → Stands b self.new (rows_of bank.new) lists.new }
-        ensures over { result ≡ Ok false → self.new.progress.refusal ≡ None → self.new.kept ≡ 0 }
+        ensures over { result ≡ Ok false → self.new.progress.refusal ≡ 0 → self.new.kept ≡ 0 }
         ensures turned { OnOk result (Turned self.old (rows_of bank.old) lists.old self.new (rows_of bank.new) lists.new) }
         ensures told { OnOk result (Appends (W.contents output.old) (W.contents output.new) (text_of self.new.page)) }
     {
@@ -201,12 +200,12 @@ impl<const N: usize> Stream<N> {
         lists: &mut Lists,
     ) -> Result<bool, Failure>
         ensures stands { (b : Bridge) → Stands b self.old (rows_of bank.old) lists.old → Stands b self.new (rows_of bank.new) lists.new }
-        ensures over { result ≡ Ok false → self.new.progress.refusal ≡ None → self.new.kept ≡ 0 }
+        ensures over { result ≡ Ok false → self.new.progress.refusal ≡ 0 → self.new.kept ≡ 0 }
         ensures turned { OnOk result (Turned self.old (rows_of bank.old) lists.old self.new (rows_of bank.new) lists.new) }
         ensures unread { IfErr result (λ failure. failure ≡ Failure.Input) }
     {
         self.page.clear();
-        let starved = self.progress.refusal.is_some() || self.kept == 0;
+        let starved = self.progress.refusal > 0 || self.kept == 0;
         let end = pieces::fill(input, &mut self.buffer, self.kept, starved)?;
         if starved && end <= self.kept {
             return Ok(false);
@@ -224,6 +223,7 @@ impl<const N: usize> Stream<N> {
         self.progress = p;
         self.kept = left;
         self.octets = self.octets.wrapping_add((end - left) as u64);
-        Ok(matches!(p.refusal, None | Some(Refusal::CutShort)))
+        // No refusal, or 1: a body cut short.
+        Ok(p.refusal <= 1)
     }
 }

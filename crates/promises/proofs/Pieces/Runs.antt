@@ -8,6 +8,7 @@ use Rattle.std.proofs.Math.Path.{refl, sym, ap, subst}
 use Rattle.std.proofs.Common.{◌∙◌, arith, length-drop, length-append, drop_of_length-le, drop-drop}
 use borrow.Author.Tests.{leb-true}
 use Rattle.record.specs.declared.Refusal.{Refusal}
+use Rattle.record.specs.Meaning.{refusal_number_of}
 use Rattle.verdict.specs.Meaning.{Verdict, Refused, Taken, Passed, Dropped, Answer}
 use Rattle.stage.specs.Meaning.{Bridge, Took, take_of}
 use Rattle.text.specs.Meaning.{line_room, Page, page, written, pass_line_of, drop_line_of}
@@ -173,9 +174,9 @@ module _ (input : List ℕ) (small : length input < 2 ^ 64) where
     refused_turn : (n : ℕ) (why : Refusal) → (take_of b rest).answer.verdict ≡ Refused why → RunIs input b w p (turned n (printed_of w p (take_of b rest).answer))
     unfolding printed_by
     refused_turn n why e =
-        let same : turned n (printed_of w p (take_of b rest).answer) ≡ ran_to b (printed w (stopped_of p why))
-        = ap (λ (v : Verdict). turned n (printed_by w p (take_of b rest).answer.used v)) e ∙ ap (λ (x : Bridge). ran_to x (printed w (stopped_of p why))) (refused_changes_nothing b rest why e).0 in
-        subst (RunIs input b w p) (sym same) (stays b w p (stopped_of p why) g refl refl refl refl (refused why e refl))
+        let same : turned n (printed_of w p (take_of b rest).answer) ≡ ran_to b (printed w (stopped_of p (refusal_number_of why)))
+        = ap (λ (v : Verdict). turned n (printed_by w p (take_of b rest).answer.used v)) e ∙ ap (λ (x : Bridge). ran_to x (printed w (stopped_of p (refusal_number_of why)))) (refused_changes_nothing b rest why e).0 in
+        subst (RunIs input b w p) (sym same) (stays b w p (stopped_of p (refusal_number_of why)) g refl refl refl refl (refused why e refl))
 
     taken_turn : (n : ℕ) (h : NoRefusal (take_of b rest).answer.verdict) → RunIs input (take_of b rest).after (next (take_of b rest) refl h).page (next (take_of b rest) refl h).progress (piece_run_of n input (take_of b rest).after (next (take_of b rest) refl h).page (next (take_of b rest) refl h).progress)
         → RunIs input b w p (turned n (printed_of w p (take_of b rest).answer))
@@ -210,11 +211,11 @@ module _ (input : List ℕ) (small : length input < 2 ^ 64) where
   run_is_front b w p g = runs_within (length input) b w p g (omega arith)
 
 -- where a refusal stops it, it is the whole of its input
-pub stopped_is_input : (b b' : Bridge) (s rest : List ℕ) (answers : List Answer) (p : Progress) → Front b s answers b' rest → Stops b' rest p → p.refusal ≢ None
-    → (why : Refusal) × (Input b s answers b' rest why × (p.refusal ≡ Some why))
+pub stopped_is_input : (b b' : Bridge) (s rest : List ℕ) (answers : List Answer) (p : Progress) → Front b s answers b' rest → Stops b' rest p → 0 < p.refusal
+    → (why : Refusal) × (Input b s answers b' rest why × (p.refusal ≡ refusal_number_of why))
 stopped_is_input b b' s rest answers p front (refused why e n) l = (why, (record { front = front; refused = e }, n))
-stopped_is_input b b' s rest answers p front (full n e) l = absurd (l n)
-stopped_is_input b b' s rest answers p front (used_up n e) l = absurd (l n)
+stopped_is_input b b' s rest answers p front (full n e) l = absurd (omega (arith, n, l))
+stopped_is_input b b' s rest answers p front (used_up n e) l = absurd (omega (arith, n, l))
 
 -- ---- runs one after another are one
 

@@ -1,6 +1,7 @@
 -- The calls that an input of many records is, and what a run over a piece of it is to leave.
-use Rattle.std.specs.Prelude.{ℕ, ◌+◌, ◌%◌, ◌^◌, ◌<◌, ◌≤◌, true, false, Some, None, List, [], ◌∷◌, ◌++◌, ◌≡◌, length, drop}
+use Rattle.std.specs.Prelude.{ℕ, ◌+◌, ◌%◌, ◌^◌, ◌<◌, ◌≤◌, true, false, List, [], ◌∷◌, ◌++◌, ◌≡◌, length, drop}
 use Rattle.record.specs.declared.Refusal.{Refusal}
+use Rattle.record.specs.Meaning.{refusal_number_of}
 use Rattle.verdict.specs.Meaning.{Answer, Verdict, Refused}
 use Rattle.stage.specs.Meaning.{Bridge, take_of}
 use Rattle.text.specs.Meaning.{line_room, Page, page, written}
@@ -25,15 +26,15 @@ EachBrief (a ∷ answers) = Brief a.verdict × EachBrief answers
 -- a progress from which a run may begin or go on, within the piece
 pub record Going (input : List ℕ) (p : Progress) : Type 0 where
   pub within : p.at ≤ length input
-  pub none : p.refusal ≡ None
+  pub none : p.refusal ≡ 0
   pub records : p.records < 2 ^ 64
   pub arrivals : p.arrivals < 2 ^ 64
 
 -- a run stops at a refusal, where there is no room for another line, or where no octet is left
 pub data Stops (b : Bridge) (rest : List ℕ) (p : Progress) : Type 0 where
-  refused : (why : Refusal) → (take_of b rest).answer.verdict ≡ Refused why → p.refusal ≡ Some why → Stops b rest p
-  full : p.refusal ≡ None → p.more ≡ false → Stops b rest p
-  used_up : p.refusal ≡ None → rest ≡ [] → Stops b rest p
+  refused : (why : Refusal) → (take_of b rest).answer.verdict ≡ Refused why → p.refusal ≡ refusal_number_of why → Stops b rest p
+  full : p.refusal ≡ 0 → p.more ≡ false → Stops b rest p
+  used_up : p.refusal ≡ 0 → rest ≡ [] → Stops b rest p
 
 -- a run over the octets `input` from the progress p on took records at their front: it left the bridge and the octets as these leave them, counted them
 -- (modulo 2^64), and put their lines on the page w

@@ -16,27 +16,10 @@ returns-then-end-self-clause-stands g c b st = stands_filled b c.args.self.now _
 pub overflow_sub-self : goal.overflow_sub-self
 overflow_sub-self g c = rw (ap (λ (k : Kept). k.waiting) c.keep-left.ensures) (waiting_at_most _ _ _)
 
-pub returns-in_default : goal.returns-in_default
-returns-in_default g c = record {
-  stands = λ b st.
-      stands_on b c.args.self.now _ _ c.fill.new.buf st _ c.in_ok-end.ensures.filled (omega arith) _ _ _ _ _ _ (c.run-p.ensures ∙ ap (piece_run_of _ _ _ _) c.again-from.ensures) _ _ c.keep-left.ensures _ refl;
-  over = λ ended none. absurd (c.in_default.not-None none);
-  turned = turns_on c.args.self.now _ _ c.fill.new.buf _ c.in_ok-end.ensures.filled (omega arith) _ c.args.self.now.page.octets (search rules) _ _ _ _ _ (c.run-p.ensures ∙ ap (piece_run_of _ _ _ _) c.again-from.ensures) _ _ c.keep-left.ensures _;
-  unread = tt;
-}
-
-pub returns-in-None-clause-stands : goal.returns-in-None-clause-stands
-returns-in-None-clause-stands g c b st =
+pub returns-clause-stands : goal.returns-clause-stands
+returns-clause-stands g c b st =
     stands_on b c.args.self.now _ _ c.fill.new.buf st _ c.in_ok-end.ensures.filled (omega arith) _ _ _ _ _ _ (c.run-p.ensures ∙ ap (piece_run_of _ _ _ _) c.again-from.ensures) _ _ c.keep-left.ensures _ refl
 
-pub returns-in-None-clause-turned : goal.returns-in-None-clause-turned
-returns-in-None-clause-turned g c =
-    turns_on c.args.self.now _ _ c.fill.new.buf _ c.in_ok-end.ensures.filled (omega arith) _ c.args.self.now.page.octets (search rules) _ _ _ _ _ (c.run-p.ensures ∙ ap (piece_run_of _ _ _ _) c.again-from.ensures) _ _ c.keep-left.ensures _
-
-pub returns-in-None-2-clause-stands : goal.returns-in-None-2-clause-stands
-returns-in-None-2-clause-stands g c b st =
-    stands_on b c.args.self.now _ _ c.fill.new.buf st _ c.in_ok-end.ensures.filled (omega arith) _ _ _ _ _ _ (c.run-p.ensures ∙ ap (piece_run_of _ _ _ _) c.again-from.ensures) _ _ c.keep-left.ensures _ refl
-
-pub returns-in-None-2-clause-turned : goal.returns-in-None-2-clause-turned
-returns-in-None-2-clause-turned g c =
-    turns_on c.args.self.now _ _ c.fill.new.buf _ c.in_ok-end.ensures.filled (omega arith) _ c.args.self.now.page.octets (search rules) _ _ _ _ _ (c.run-p.ensures ∙ ap (piece_run_of _ _ _ _) c.again-from.ensures) _ _ c.keep-left.ensures _
+pub returns-clause-turned : goal.returns-clause-turned
+returns-clause-turned g c =
+    turns_on c.args.self.now _ _ c.fill.new.buf _ c.in_ok-end.ensures.filled (omega arith) _ _ c.clear.ensures _ _ _ _ _ (c.run-p.ensures ∙ ap (piece_run_of _ _ _ _) c.again-from.ensures) _ _ c.keep-left.ensures _
