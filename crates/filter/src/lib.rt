@@ -172,6 +172,8 @@ pub fn first_exceeding(table: &[Filter], bank: &Bank) -> Option<(usize, Filter)>
 
 // The first row that answers, in ascending identifier, and its place. Whether a row counts is asked last, since most are ruled out before.
 // Ruled out: the last row that answers; a row before `from`; an empty row past the table's end passed over.
+// Inlined, so that what is asked is settled where it is compiled.
+#[inline(always)]
 #[tactic(auto, unfolding(crate::specs::Meaning::search_of, crate::specs::Meaning::row_answers))]
 pub fn search(table: &[Filter], bank: &Bank, q: Question) -> Option<(usize, Filter)>
     ensures { result ≡ search_of (rows_of bank.now) (question_of q) table.now }
