@@ -1,6 +1,6 @@
 -- A frame's path: document 01's five steps, from the last to the first, since each ends in the next.
 -- `s` is the bank's rows, `a` the arrival, `f` the matched filter's number and `row` its row.
-use Rattle.std.specs.Prelude.{ℕ, ◌*◌, ◌%◌, ◌^◌, Bool, cond, not, ◌&&◌, ◌||◌, List, take, drop, Option, Some, None, ◌==◌, nat_le, nat_lt}
+use Rattle.std.specs.Prelude.{ℕ, ◌*◌, ◌%◌, ◌^◌, Bool, cond, not, ◌&&◌, ◌||◌, List, take, drop, Option, Some, None, is_some, unwrap_or, ◌==◌, nat_le, nat_lt}
 use Rattle.sizes.specs.Meaning.{gate_count, entry_octets, list_octets}
 use Rattle.bucket.specs.declared.Octets.{Octets}
 use Rattle.frame.specs.Meaning.{frame_of}
@@ -43,7 +43,7 @@ class_count s = (component s).classes % 2 ^ 8
 
 -- internal priority, its traffic class, drop mark, and eligibility time or none
 unfoldable pub pass_of : Rows → ℕ → ℕ → Option ℕ → Verdict
-pass_of s priority mark eligible = Passed (record { priority = priority; class = class_in (traffic_class_of priority (class_count s)); drop_mark = mark; eligible = eligible })
+pass_of s priority mark eligible = Passed (record { priority = priority; class = class_in (traffic_class_of priority (class_count s)); drop_mark = mark; timed = is_some eligible; eligible = unwrap_or eligible 0 })
 
 -- ---- counters: what step 2, 3 or 4 counts of filter `f`; all others stay
 

@@ -180,6 +180,7 @@ fn pass(bank: &Bank, priority: u8, drop_mark: u8, eligible: Option<u64>) -> Pass
         priority,
         class: class::traffic_class(priority, classes).unwrap_or(0),
         drop_mark,
-        eligible,
+        timed: eligible.is_some(),
+        eligible: eligible.unwrap_or(0),
     }
 }

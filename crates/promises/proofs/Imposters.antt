@@ -120,7 +120,7 @@ take_counts cs f h =
 abbrev pub polices_once : Machine
 polices_once b c =
     cond (eqb (component b.bank).clock 0) (take_of b c)
-    (took b.table b.bank b.lists (answered (length c) (Passed (record { priority = 0; class = 0; drop_mark = 0; eligible = None }))))
+    (took b.table b.bank b.lists (answered (length c) (Passed (record { priority = 0; class = 0; drop_mark = 0; timed = false; eligible = 0 }))))
 
 -- of two frames it counts the first
 pub policing_once_breaks : Counts polices_once → ⊥

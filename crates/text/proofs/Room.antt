@@ -1,6 +1,6 @@
 -- The room of a line: where there are places enough, all of it is put, octet by octet after what is filled; and no line needs more of them than
 -- are kept for it (`line_room`).
-use Rattle.std.specs.Prelude.{ℕ, zero, suc, ◌+◌, ◌-◌, ◌*◌, ◌/◌, ◌%◌, ◌^◌, ◌<◌, ◌≤◌, Bool, true, false, Option, Some, None, List, [], ◌∷◌, ◌++◌, ◌≡◌, refl, leb, ltb, length, set, take, drop}
+use Rattle.std.specs.Prelude.{ℕ, zero, suc, ◌+◌, ◌-◌, ◌*◌, ◌/◌, ◌%◌, ◌^◌, ◌<◌, ◌≤◌, Bool, true, List, [], ◌∷◌, ◌++◌, ◌≡◌, refl, leb, ltb, length, set, take, drop}
 use Rattle.std.proofs.Common.{append_assoc, sym, ap, ◌∙◌, arith, add-one, leb-true, ltb-true, ltb-false, length-set}
 use Rattle.std.proofs.Math.ListN.{length-append}
 use Rattle.std.proofs.lemmas.List.Edits.{sets, sets-eq}
@@ -10,7 +10,7 @@ use Rattle.verdict.specs.declared.Drop.{Drop}
 use Rattle.verdict.specs.declared.Drop.TheVariants.{OversizeBlocked, Oversize, GateBlocked, GateClosed, GateOctets, Yellow, Red, Residence}
 use Rattle.verdict.specs.declared.Pass.{Pass}
 use Rattle.verdict.specs.Meaning.{drop_number_of}
-use Rattle.text.specs.Meaning.{Page, page, put_of, written, digits_of, time_of, pass_line_of, drop_line_of, end_line_of, refused_line_of, line_room}
+use Rattle.text.specs.Meaning.{Page, page, put_of, written, digits_of, ascii, time_of, pass_line_of, drop_line_of, end_line_of, refused_line_of, line_room}
 use Rattle.text.proofs.Laws.{put_in, digits_one, digits_more}
 
 -- ---- a line that has places enough is put whole
@@ -90,9 +90,8 @@ module _ (n : ℕ) where
 
 -- ---- the lines: no number in them is wider than the code has it
 
-time_room : (time : Option ℕ) → ((at : ℕ) → time ≡ Some at → at < 2 ^ 64) → length (time_of time) ≤ 20
-time_room None l = omega arith
-time_room (Some at) l = digits_64 at (l at refl)
+time_room : (timed : Bool) (n : ℕ) → n < 2 ^ 64 → length (time_of timed n) ≤ 20
+time_room timed n l = if_by (λ (xs : List ℕ). length xs ≤ 20) timed (digits_of n) (ascii "-") (λ e. digits_64 n l) (λ e. omega arith)
 
 drop_number_room : (d : Drop) → length (digits_of (drop_number_of d)) ≤ 3
 drop_number_room d = digits_8 (drop_number_of d) (small d)
@@ -108,10 +107,10 @@ drop_number_room d = digits_8 (drop_number_of d) (small d)
     small Residence = omega arith
 
 module _ (arrival : ℕ) (l : arrival < 2 ^ 64) where
-  pub pass_room : (p : Pass) → p.priority < 2 ^ 8 → p.class < 2 ^ 8 → p.drop_mark < 2 ^ 8 → ((at : ℕ) → p.eligible ≡ Some at → at < 2 ^ 64) → length (pass_line_of arrival p) ≤ line_room
+  pub pass_room : (p : Pass) → p.priority < 2 ^ 8 → p.class < 2 ^ 8 → p.drop_mark < 2 ^ 8 → p.eligible < 2 ^ 64 → length (pass_line_of arrival p) ≤ line_room
   unfolding pass_line_of
   pass_room p a b c e =
-      simp length-append (omega (arith, digits_64 arrival l, digits_8 p.priority a, digits_8 p.class b, digits_8 p.drop_mark c, time_room p.eligible e))
+      simp length-append (omega (arith, digits_64 arrival l, digits_8 p.priority a, digits_8 p.class b, digits_8 p.drop_mark c, time_room p.timed p.eligible e))
 
   pub drop_room : (d : Drop) → length (drop_line_of arrival d) ≤ line_room
   unfolding drop_line_of

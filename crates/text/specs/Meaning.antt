@@ -1,5 +1,5 @@
 -- A buffer that is filled from its front: its octets, and the place of the next one. Where there is no place, an octet is left out.
-use Rattle.std.specs.Prelude.{ℕ, ◌+◌, zero, suc, ◌/◌, ◌%◌, cond, Option, Some, None, List, [], ◌∷◌, ◌++◌, ltb, eqb, length, set}
+use Rattle.std.specs.Prelude.{ℕ, ◌+◌, zero, suc, ◌/◌, ◌%◌, cond, Bool, List, [], ◌∷◌, ◌++◌, ltb, eqb, length, set}
 use Prim.Native.Char.{code}
 use Prim.Native.String.{String, [] as empty, ◌∷◌ as ◌then◌}
 use mir.Val.{bool_byte}
@@ -56,13 +56,12 @@ ascii (c then s) = code c ∷ ascii s
 
 -- ---- the line of an arrival: its number, the verdict, then internal priority, class, drop mark, eligibility time (- for none), or the drop number
 
-abbrev pub time_of : Option ℕ → List ℕ
-time_of None = ascii "-"
-time_of (Some time) = digits_of time
+abbrev pub time_of : Bool → ℕ → List ℕ
+time_of timed time = cond timed (digits_of time) (ascii "-")
 
 unfoldable pub pass_line_of : ℕ → Pass → List ℕ
 pass_line_of arrival p =
-    digits_of arrival ++ ascii " pass " ++ digits_of p.priority ++ ascii " " ++ digits_of p.class ++ ascii " " ++ digits_of p.drop_mark ++ ascii " " ++ time_of p.eligible ++ ascii "\n"
+    digits_of arrival ++ ascii " pass " ++ digits_of p.priority ++ ascii " " ++ digits_of p.class ++ ascii " " ++ digits_of p.drop_mark ++ ascii " " ++ time_of p.timed p.eligible ++ ascii "\n"
 
 unfoldable pub drop_line_of : ℕ → Drop → List ℕ
 drop_line_of arrival d = digits_of arrival ++ ascii " drop " ++ digits_of (drop_number_of d) ++ ascii "\n"

@@ -128,16 +128,17 @@ impl<const N: usize> Page<N> {
         self.put_octet(b' ');
         self.put_number(p.drop_mark as u64);
         self.put_octet(b' ');
-        self.put_time(p.eligible);
+        self.put_time(p.timed, p.eligible);
         self.put_octet(b'\n');
     }
 
-    fn put_time(&mut self, time: Option<u64>)
-        ensures { self.new ≡ written self.old (time_of time) }
+    fn put_time(&mut self, timed: bool, time: u64)
+        ensures { self.new ≡ written self.old (time_of timed time) }
     {
-        match time {
-            Some(t) => self.put_number(t),
-            None => self.put_octet(b'-'),
+        if timed {
+            self.put_number(time);
+        } else {
+            self.put_octet(b'-');
         }
     }
 

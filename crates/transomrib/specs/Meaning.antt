@@ -1,5 +1,5 @@
 -- What C sees: an answer as a struct of numbers, and the counters and flags under the numbers that include/transomrib.h names.
-use Rattle.std.specs.Prelude.{ℕ, List, cond, eqb, ltb, is_some, unwrap_or}
+use Rattle.std.specs.Prelude.{ℕ, List, cond, eqb, ltb}
 use mir.Val.{bool_byte}
 use Rattle.sizes.specs.Meaning.{filter_count, gate_count, meter_count, port_count}
 use Rattle.record.specs.Meaning.{refusal_number_of}
@@ -24,14 +24,14 @@ spelled_of used (Refused r) = short_reply used 0 (refusal_number_of r)
 spelled_of used Taken = short_reply used 1 0
 spelled_of used (Passed p) =
     record {
-      eligible = unwrap_or p.eligible 0;
+      eligible = p.eligible;
       used = used;
       verdict = 2;
       number = 0;
       priority = p.priority;
       class = p.class;
       drop_mark = p.drop_mark;
-      timed = bool_byte (is_some p.eligible);
+      timed = bool_byte p.timed;
     }
 spelled_of used (Dropped d) = short_reply used 3 (drop_number_of d)
 

@@ -78,14 +78,14 @@ pub fn spelled(used: usize, outcome: Result<Outcome, Refusal>) -> Reply
             ..Reply::default()
         },
         Ok(Outcome::Passed(p)) => Reply {
-            eligible: p.eligible.unwrap_or(0),
+            eligible: p.eligible,
             used,
             verdict: 2,
             number: 0,
             priority: p.priority,
             class: p.class,
             drop_mark: p.drop_mark,
-            timed: p.eligible.is_some() as u8,
+            timed: p.timed as u8,
         },
         Ok(Outcome::Dropped(d)) => Reply {
             used,

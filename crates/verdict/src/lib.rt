@@ -40,8 +40,11 @@ pub struct Pass {
     pub class: u8,
     // 1 where the frame is drop eligible; the arrival's own number where no meter is named or it leaves the mark.
     pub drop_mark: u8,
-    // In ns; none where no scheduler gave one.
-    pub eligible: Option<u64>,
+    // Whether there is an eligibility time; `eligible` is 0 where there is none.
+    // Kept: a flag and a time, since `transomrib::spelled` and `text::Page::put_pass` answer for any two.
+    pub timed: bool,
+    // In ns.
+    pub eligible: u64,
 }
 
 // What came of a record that was taken.

@@ -1,6 +1,6 @@
 -- Steps 1 to 4 of a frame's path on two banks that are equal outside a group: what holds of step 5 on both holds of the whole path on both.
 use Rattle.std.specs.Prelude.{ℕ, ◌%◌, ◌<◌, ◌^◌, Bool, true, false, not, ◌&&◌, ◌||◌, cond, List, ◌≡◌, refl, None, Some}
-use Rattle.std.specs.Prelude.{Option}
+use Rattle.std.specs.Prelude.{Option, is_some, unwrap_or}
 use Rattle.std.proofs.Math.Path.{ap, subst}
 use Rattle.std.proofs.Common.{◌∙◌, arith}
 use Rattle.std.proofs.Math.Dec.{ltb, eqb}
@@ -72,7 +72,7 @@ module _ (k : Asked) (z : Constants) (g : ℕ) (s s' : Rows) (o : Over k z g s s
   pub pass_both : (priority mark : ℕ) (eligible : Option ℕ) → pass_of s priority mark eligible ≡ pass_of s' priority mark eligible
   unfolding pass_of
   pass_both priority mark eligible =
-      ap (λ (x : Component). Passed (record { priority = priority; class = class_in (traffic_class_of priority (x.classes % 2 ^ 8)); drop_mark = mark; eligible = eligible })) component_both
+      ap (λ (x : Component). Passed (record { priority = priority; class = class_in (traffic_class_of priority (x.classes % 2 ^ 8)); drop_mark = mark; timed = is_some eligible; eligible = unwrap_or eligible 0 })) component_both
 
   -- ---- counters
 

@@ -1,5 +1,5 @@
 -- Step 5 on the two banks, for a frame whose filter names a scheduler of the group.
-use Rattle.std.specs.Prelude.{ℕ, ◌%◌, ◌+◌, ◌≤◌, ◌<◌, Bool, false, List, ◌≢◌, ◌≡◌, refl, leb, Some}
+use Rattle.std.specs.Prelude.{ℕ, ◌%◌, ◌+◌, ◌≤◌, ◌<◌, Bool, true, false, List, ◌≢◌, ◌≡◌, refl, leb, Some}
 use Rattle.std.proofs.Math.Bool.{true}
 use Rattle.std.proofs.Common.{sym, ◌∙◌, arith, leb-true, leb-false}
 use Rattle.std.proofs.Math.Path.{ap, subst}
@@ -35,7 +35,7 @@ apart_fair = record { overheads = λ u v e. e.overhead; discards = λ u v e. rec
 -- one pass at two times
 sooner_pass : (s : Rows) (priority mark : ℕ) (at at' : ℕ) → at' ≤ at → NotLater (pass_of s priority mark (Some at)) (pass_of s priority mark (Some at'))
 unfolding pass_of
-sooner_pass s priority mark at at' h = earlier (record { priority = priority; class = class_in (traffic_class_of priority ((component s).classes % 256)); drop_mark = mark; eligible = Some at }) at at' refl (omega arith)
+sooner_pass s priority mark at at' h = earlier (record { priority = priority; class = class_in (traffic_class_of priority ((component s).classes % 256)); drop_mark = mark; timed = true; eligible = at }) at' refl (omega arith)
 
 -- unless the first drops the frame with 8
 pub record Leads (k : Asked) (z : Constants) (g : ℕ) (t t' : Told) : Type 0 where

@@ -54,7 +54,7 @@ answered_verdict used (Dropped d) = refl
 
 sooner_used : (used : ℕ) (v v' : Verdict) → NotLater v v' → (answered used v).used ≡ (answered used v').used
 sooner_used used v v' (same e) = ap (λ (w : Verdict). (answered used w).used) e
-sooner_used used v v' (earlier p at at' t h) = refl
+sooner_used used v v' (earlier p at t h) = refl
 
 sooner_answered : (used : ℕ) (v v' : Verdict) → NotLater v v' → NotLater (answered used v).verdict (answered used v').verdict
 sooner_answered used v v' h = rw (answered_verdict used v, answered_verdict used v') h

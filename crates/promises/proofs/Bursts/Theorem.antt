@@ -28,7 +28,7 @@ use Rattle.promises.specs.Meaning.{Call, run_of, fresh}
 
 eight_back : (v v' : Verdict) → NotLater v v' → Eight v' → Eight v
 eight_back v v' (same e) h = e ∙ h
-eight_back v v' (earlier p at at' t l) h = absurd (let w : ◌≡◌ {A = ℕ} 0 1 = cc in omega arith)
+eight_back v v' (earlier p at t l) h = absurd (let w : ◌≡◌ {A = ℕ} 0 1 = cc in omega arith)
 
 pub near_run : (g : ℕ) (b b' : Bridge) → Strong g b b' → (cs : List Call) → StartTogether b b' cs → Spared g b cs → NoLater b b' cs × Spared g b' cs × Strong g (run_of b cs) (run_of b' cs)
 unfolding run_of

@@ -1,7 +1,6 @@
 -- Why the promise on bursts asks that the first history drops nothing of the group with 8: two histories, computed from their octets.
 -- A burst of 1500 instead of 1000 admits the second frame, too, which the first history drops; the third frame is then eligible later: at 12,000 instead of 8000 ns.
-use Rattle.std.specs.Prelude.{ℕ, List, [], ◌∷◌, ◌++◌, ◌≡◌, refl, Some, None}
-use Rattle.std.specs.Prelude.{Option}
+use Rattle.std.specs.Prelude.{ℕ, cond, List, [], ◌∷◌, ◌++◌, ◌≡◌, refl}
 use Rattle.std.proofs.Common.{arith}
 use Rattle.gate.specs.Meaning.{entries_from, cycle_of, found_of, in_force_of, spent_of, limited_of, passed_of, gate_step_of}
 use Rattle.scheduler.specs.Meaning.{scheduler_step_of, scheduler_in_range as schedulerInRangeOf}
@@ -26,14 +25,10 @@ pub data Seen : Type 0 where
   drop : ℕ → Seen
   refused : ℕ → Seen
 
-abbrev pub seen_at : Option ℕ → Seen
-seen_at (Some at) = eligible at
-seen_at None = untimed
-
 abbrev pub seen_of : Verdict → Seen
 seen_of (Refused r) = refused (refusal_number_of r)
 seen_of Taken = taken
-seen_of (Passed p) = seen_at p.eligible
+seen_of (Passed p) = cond p.timed (eligible p.eligible) untimed
 seen_of (Dropped d) = drop (drop_number_of d)
 
 unfoldable pub seen_in : Bridge → List Call → List Seen

@@ -84,7 +84,7 @@ module _ (b : Bridge) (reached : Reached b) (full : length b.table ≡ filter_co
   pass_brief o (read r used whole said) q p e n =
       let arrival = passed_arrival b c p r used e in
       let h = pass_in_bounds b reached full c arrival.0 used (said ∙ ap (λ (x : Record). Ok (x, used)) arrival.1) p (ap (λ (x : Took). x.answer.verdict) q ∙ e) in
-      pass_room ((n + 1) % 2 ^ 64) (omega arith) p (omega (arith, h.0)) (omega (arith, h.1)) (omega (arith, h.2)) (λ at t. omega (arith, h.3 at t))
+      pass_room ((n + 1) % 2 ^ 64) (omega arith) p (omega (arith, h.0)) (omega (arith, h.1)) (omega (arith, h.2)) (omega (arith, h.3))
 
   verdict_brief : (v : Verdict) → (take_of b c).answer.verdict ≡ v → Brief v
   verdict_brief (Refused why) e n = omega arith

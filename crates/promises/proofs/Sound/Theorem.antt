@@ -1,7 +1,6 @@
 -- Demand 2, one frame: whatever calls came before, and whatever was written into the lent table between them, the verdict of a frame is the one that document 01
 -- gives, and no other. A meter or a scheduler that a frame reaches never refuses it, and its class is always that of the table.
-use Rattle.std.specs.Prelude.{ℕ, ◌+◌, ◌^◌, ◌≤◌, ◌<◌, Bool, true, false, cond, List, [], ◌∷◌, ◌≢◌, ◌↔◌, ◌≡◌, refl, leb, length, Ok, Some, None}
-use Rattle.std.specs.Prelude.{Option}
+use Rattle.std.specs.Prelude.{ℕ, ◌+◌, ◌^◌, ◌≤◌, ◌<◌, Bool, true, false, cond, List, [], ◌∷◌, ◌≢◌, ◌↔◌, ◌≡◌, refl, leb, length, Ok}
 use Rattle.std.proofs.Common.{sym, subst, ◌∙◌, arith, leb-true, leb-false, eq-eqb}
 use Rattle.std.proofs.Math.Path.{ap}
 use Rattle.sizes.specs.Meaning.{filter_count}
@@ -58,13 +57,6 @@ in_bounds reached =
 
 -- ---- one frame
 
--- no time is none, and two that are the same option are the same
-untimed : {A : Type 0} {at : ℕ} → ◌≡◌ {A = Option ℕ} None (Some at) → A
-untimed e = absurd (let w : ◌≡◌ {A = ℕ} 0 1 = cc in omega arith)
-
-timed_same : {at at' : ℕ} → ◌≡◌ {A = Option ℕ} (Some at) (Some at') → at ≡ at'
-timed_same e = cc
-
 module _ (b : Bridge) (reached : Reached b) (whole : length b.table ≡ filter_count) (c : Call) (a : ArrivalRecord) (used : ℕ) (reads : read_of c (started_of b.bank) ≡ Ok (kind.Arrival a, used)) where
   ready : Ready b a
   ready = arrival_ready b c (reached_sound reached) a used reads
@@ -115,14 +107,13 @@ module _ (b : Bridge) (reached : Reached b) (whole : length b.table ≡ filter_c
 
   -- ---- what a pass carries
 
-  pub eligible_as_computed : (p : Pass) (at : ℕ) → verdict ≡ Passed p → p.eligible ≡ Some at → EligibleAs b a at
-  eligible_as_computed p at e = by_case p (given_verdict (Passed p) e)
+  pub eligible_as_computed : (p : Pass) → verdict ≡ Passed p → p.timed ≡ true → EligibleAs b a p.eligible
+  eligible_as_computed p e = by_case p (given_verdict (Passed p) e)
     where
-      by_case : (p : Pass) → Given b a (Passed p) → p.eligible ≡ Some at → EligibleAs b a at
-      by_case p (unmatched h h') t = untimed t
-      by_case p (unscheduled f row ipv mark h h') t = untimed t
-      by_case p (scheduled f row ipv mark h h') t =
-          subst (EligibleAs b a) (timed_same t) (record { filter = f; row = row; ipv = ipv; mark = mark; at_scheduler = h; computed = refl; in_time = h' })
+      by_case : (p : Pass) → Given b a (Passed p) → p.timed ≡ true → EligibleAs b a p.eligible
+      by_case p (unmatched h h') t = never t
+      by_case p (unscheduled f row ipv mark h h') t = never t
+      by_case p (scheduled f row ipv mark h h') t = record { filter = f; row = row; ipv = ipv; mark = mark; at_scheduler = h; computed = refl; in_time = h' }
 
   -- the table has a class for it, and it is that one
   pub class_of_table : (p : Pass) → verdict ≡ Passed p → (in_table p.priority (component b.bank).classes ≡ true) × (p.class ≡ class_at p.priority (component b.bank).classes)
@@ -140,7 +131,7 @@ module _ (b : Bridge) (reached : Reached b) (whole : length b.table ≡ filter_c
       omega (arith, h.1, class_below p.priority (component b.bank).classes (table_of p.priority (component b.bank).classes h.0))
 
   -- and no number in it is out of document 01's bounds
-  pub pass_in_bounds : (p : Pass) → verdict ≡ Passed p → (p.priority ≤ 7) × (p.class < 8) × (p.drop_mark ≤ 1) × ((at : ℕ) → p.eligible ≡ Some at → at ≤ 2 ^ 62 + 1_000_000_000)
+  pub pass_in_bounds : (p : Pass) → verdict ≡ Passed p → (p.priority ≤ 7) × (p.class < 8) × (p.drop_mark ≤ 1) × (p.eligible ≤ 2 ^ 62 + 1_000_000_000)
   pass_in_bounds p e =
       let class : p.class < 8 = omega (arith, class_below_classes p e, ready.sound.classes) in
       let others = by_case p (given_verdict (Passed p) e) in
@@ -151,11 +142,11 @@ module _ (b : Bridge) (reached : Reached b) (whole : length b.table ≡ filter_c
       mark_high row mark (green h h') = ready.mark_high
       mark_high row mark (yellow h h') = omega arith
 
-      by_case : (p : Pass) → Given b a (Passed p) → (p.priority ≤ 7) × ((p.drop_mark ≤ 1) × ((at : ℕ) → p.eligible ≡ Some at → at ≤ 2 ^ 62 + 1_000_000_000))
-      by_case p (unmatched h h') = (ready.priority_high, (ready.mark_high, λ at. untimed))
-      by_case p (unscheduled f row ipv mark h h') = (internal_high b a ready ipv, (mark_high row mark h.marked, λ at. untimed))
+      by_case : (p : Pass) → Given b a (Passed p) → (p.priority ≤ 7) × ((p.drop_mark ≤ 1) × (p.eligible ≤ 2 ^ 62 + 1_000_000_000))
+      by_case p (unmatched h h') = (ready.priority_high, (ready.mark_high, omega arith))
+      by_case p (unscheduled f row ipv mark h h') = (internal_high b a ready ipv, (mark_high row mark h.marked, omega arith))
       by_case p (scheduled f row ipv mark h h') =
-          (internal_high b a ready ipv, (mark_high row mark h.past_meter.marked, λ at t. omega (arith, timed_same t, h', ready.time_high, (ready.sound.groups (scheduler_group b.bank row.scheduler)).residence_high)))
+          (internal_high b a ready ipv, (mark_high row mark h.past_meter.marked, omega (arith, h', ready.time_high, (ready.sound.groups (scheduler_group b.bank row.scheduler)).residence_high)))
 
   -- ---- no step refuses a frame that comes to it
 

@@ -1,7 +1,7 @@
 -- The promise on bursts: what it says of two histories from the fresh bridge that are equal but for one call, which sets up one scheduler with a larger burst in the second, and that take their start at the same call.
 -- As long as the first drops no frame of that scheduler's group with 8, the second drops none either, no frame is eligible later in it, and every other part of every answer, every counter and every flag is equal.
 -- And what is no frame of the group gets the very same answers, whatever happens inside it. That it holds is `larger_burst` in `Theorem.antt`.
-use Rattle.std.specs.Prelude.{ℕ, ◌≤◌, ◌<◌, false, List, [], ◌∷◌, ◌≢◌, ◌≡◌, Ok, Some}
+use Rattle.std.specs.Prelude.{ℕ, ◌≤◌, ◌<◌, true, false, List, [], ◌∷◌, ◌≢◌, ◌≡◌, Ok, Some}
 use Rattle.record.specs.declared.ArrivalRecord.{ArrivalRecord}
 use Rattle.record.specs.declared.SchedulerRecord.{SchedulerRecord}
 use Rattle.record.specs.Meaning.{read_of}
@@ -40,7 +40,7 @@ pub record Framed (g : ℕ) (b : Bridge) (c : Call) : Type 0 where
 
 pub data NotLater : Verdict → Verdict → Type 0 where
   same : {v v' : Verdict} → v ≡ v' → NotLater v v'
-  earlier : (p : Pass) (at at' : ℕ) → p.eligible ≡ Some at → at' ≤ at → NotLater (Passed p) (Passed (record { priority = p.priority; class = p.class; drop_mark = p.drop_mark; eligible = Some at' }))
+  earlier : (p : Pass) (at : ℕ) → p.timed ≡ true → at ≤ p.eligible → NotLater (Passed p) (Passed (record { priority = p.priority; class = p.class; drop_mark = p.drop_mark; timed = p.timed; eligible = at }))
 
 -- drop 8
 abbrev pub Eight : Verdict → Type 0

@@ -2,7 +2,7 @@
 -- there. The answers that a meter, a scheduler and the table of classes keep for numbers that no record could have written are none of these cases.
 -- That the verdict is always one of them, and this one, is `Theorem.antt`.
 use Rattle.std.specs.Prelude.{ℕ, ◌+◌, ◌≤◌, ◌<◌, ◌^◌, Bool, true, false, List, ◌≢◌, ◌≡◌, None, Some}
-use Rattle.std.specs.Prelude.{Option}
+use Rattle.std.specs.Prelude.{Option, is_some, unwrap_or}
 use Rattle.bucket.specs.Meaning.{grains}
 use Rattle.class.specs.Meaning.{class_at}
 use Rattle.gate.specs.declared.Outcome.TheVariants.{Passed as Open, Blocked, Closed, TooManyOctets}
@@ -52,7 +52,7 @@ latest_at b a i = a.time + (group b.bank (scheduler_group b.bank i)).residence
 
 -- "A pass carries the internal priority .., its traffic class, drop mark, and eligibility time or none": the class is that of the table
 abbrev pub pass_at : Bridge → ℕ → ℕ → Option ℕ → Pass
-pass_at b priority mark eligible = record { priority = priority; class = class_at priority (component b.bank).classes; drop_mark = mark; eligible = eligible }
+pass_at b priority mark eligible = record { priority = priority; class = class_at priority (component b.bank).classes; drop_mark = mark; timed = is_some eligible; eligible = unwrap_or eligible 0 }
 
 -- ---- how far the frame comes
 
