@@ -78,12 +78,12 @@ answer_back (Err r) = refl
 pub answer_tells : (r r' : Result TakenRecord Refusal) → answer_of r ≡ answer_of r' → r ≡ r'
 answer_tells r r' e = sym (answer_back r) ∙ ap (λ (a : Answer). taken_back a.used a.verdict) e ∙ answer_back r'
 
--- `told (rows_of bank.new) v ≡ foo_of ..`: a frame, a setup record, a start, a clear
+-- `told (rows_of bank.new) v ≡ foo_of ..`, where v is `said result` or `set_up result`: a frame, a setup record, a start, a clear
 pub one_told : (meaning : Told) (w w' : Bank) (v v' : Verdict) → length w.words ≡ length w'.words → told (rows_of w) v ≡ meaning → told (rows_of w') v' ≡ meaning → (w ≡ w') × (v ≡ v')
 one_told meaning w w' v v' same e e' =
     (one_bank meaning.bank w w' same (ap (λ (t : Told). t.bank) e) (ap (λ (t : Told). t.bank) e'), one_value meaning.verdict v v' (ap (λ (t : Told). t.verdict) e) (ap (λ (t : Told). t.verdict) e'))
 
--- `listed (rows_of bank.new) lists.new v ≡ entry_of ..`: a gate entry
+-- `listed (rows_of bank.new) lists.new (set_up result) ≡ add_entry_of ..`: a gate entry
 pub one_listed : (meaning : Listed) (w w' : Bank) (lists lists' : List ℕ) (v v' : Verdict) → length w.words ≡ length w'.words → listed (rows_of w) lists v ≡ meaning → listed (rows_of w') lists' v' ≡ meaning → (w ≡ w') × ((lists ≡ lists') × (v ≡ v'))
 one_listed meaning w w' lists lists' v v' same e e' = (
   one_bank meaning.bank w w' same (ap (λ (t : Listed). t.bank) e) (ap (λ (t : Listed). t.bank) e'),
@@ -110,7 +110,7 @@ pub one_reply : (meaning : Replied) (table table' : List Filter) (w w' : Bank) (
 one_reply meaning table table' w w' lists lists' r r' same e e' =
     (one_bridge meaning.after table table' w w' lists lists' same (ap (λ (o : Replied). o.after) e) (ap (λ (o : Replied). o.after) e'), one_value meaning.reply r r' (ap (λ (o : Replied). o.reply) e) (ap (λ (o : Replied). o.reply) e'))
 
--- `page out.new result ≡ written ..`: a line, with every octet of the buffer and the place after the line
+-- `self.new ≡ written self.old ..`, a page being its octets and its place: a line, with every octet of the page and the place after the line
 pub one_page : (meaning : Page) (out out' : List ℕ) (r r' : ℕ) → page out r ≡ meaning → page out' r' ≡ meaning → (out ≡ out') × (r ≡ r')
 one_page meaning out out' r r' e e' =
     (one_value meaning.octets out out' (ap (λ (p : Page). p.octets) e) (ap (λ (p : Page). p.octets) e'), one_value meaning.filled r r' (ap (λ (p : Page). p.filled) e) (ap (λ (p : Page). p.filled) e'))
