@@ -22,4 +22,4 @@ returns-clause-stands g c b st =
 
 pub returns-clause-turned : goal.returns-clause-turned
 returns-clause-turned g c =
-    turns_on c.args.self.now _ _ c.fill.new.buf _ c.in_ok-end.ensures.filled (omega arith) _ _ c.clear.ensures _ _ _ _ _ (c.run-p.ensures ∙ ap (piece_run_of _ _ _ _) c.again-from.ensures) _ _ c.keep-left.ensures _
+    turns_on c.args.self.now _ _ c.fill.new.buf _ c.in_ok-end.ensures.filled (omega arith) _ c.args.self.now.page.octets (search rules) _ _ _ _ _ (c.run-p.ensures ∙ ap (piece_run_of _ _ _ _) c.again-from.ensures) _ _ c.keep-left.ensures _
